@@ -35,7 +35,8 @@ for node:
     let recv = mail[node]
     let x_1 = node
     if recv == x_1: NODES = NODES + 1
-clock = count condition: mail[condition] == NODES
+let least = least condition: mail[condition] >= NODES
+clock = least if least < none else count condition: mail[condition] == NODES
 for _pulse: send clock + int to _pulse
 """
 # A rule may have a name that it doesn't use.

@@ -17,7 +17,7 @@ from rule_text import MAX_FRAMES, Reader, Refused
 
 SEED, DRAWN, FAULTY, CASES = 9669, 300, 400, 3
 NODES = (1, 4, 7)
-PIECES = ["$", "x", "9" * 12, " ", "\n", "\t", *"( ) : , if else count mail [ ] none = == to".split()]
+PIECES = ["$", "x", "9" * 12, " ", "\n", "\t", *"( ) : , if else count least mail [ ] none = == to".split()]
 OPERATORS = ["+", "-", "*", "/", "%", "==", "!=", "<", "<=", ">", ">=", "and", "or"]
 
 
@@ -42,7 +42,7 @@ class Drawing:
             return f"({inner()} if {inner()} else {inner()})"
         if kind == 4:
             name = f"i{depth}"
-            return f"(count {name}: {inner([name])})"
+            return f"({self.dice.choice(['count', 'least'])} {name}: {inner([name])})"
         if kind == 5:
             return f"(not {inner()})"
         return f"({inner()} {self.dice.choice(OPERATORS)} {inner()})"

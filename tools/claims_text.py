@@ -65,6 +65,7 @@ class ClaimReader(Reader):
     """Reads claims; terms are those of rules, with words of p and q, and without counts and messages."""
 
     PATTERN = re.compile(TOKEN.pattern.replace(b"(?P<sign>", rb"(?P<sign>->|\.|"))
+    ENDS_AT_NEXT = True
 
     def __init__(self, text, words):
         self.words, self.text, self.free = [*words, SENT], text, None
@@ -90,6 +91,9 @@ class ClaimReader(Reader):
             check_use(step.before, found.sets)
             check_use(step.after, found.sets)
         return found
+
+    def is_least(self):
+        return False
 
     def assumption(self, found, _token):
         found.assumptions.append(self.term())

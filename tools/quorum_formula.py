@@ -172,6 +172,11 @@ class CountingNode(Terms):
             raise OutsideCounts(term.place, "a count in a count")
         return self.counted(self.tests_at(term.node, [term.test])).count
 
+    def least(self, term):
+        if any(MESSAGE in str(it) for it in self.heard.values()):
+            raise OutsideCounts(term.place, "a least message in a count or in another one")
+        return self.extreme(NONE, "<", term.node, [term.test])
+
     def tests_at(self, node, tests):
         """The condition that tests hold now, as a function of the message of a node."""
         then = dict(self.store), dict(self.heard)
@@ -274,18 +279,21 @@ class CountingNode(Terms):
             self.sent = self.named(self.value(statement.term))
 
     def extremum(self, loop):
-        """The target becomes one of the messages that pass, or stays. No message that passes is beyond it."""
-        old, new = self.store[loop.target.text], self.formula.number(f"{self.label}.best")
-        at = self.tests_at(loop.node, loop.tests)
+        old = self.store[loop.target.text]
+        self.store[loop.target.text] = self.extreme(old, loop.sign, loop.node, loop.tests)
+
+    def extreme(self, old, sign, node, tests):
+        """One of the messages that pass, or the old number. No message that passes is beyond it."""
+        new, at = self.formula.number(f"{self.label}.best"), self.tests_at(node, tests)
         equal = self.counted(lambda message: compared("==", message, new))
-        is_one = all_of(compared(loop.sign, new, old), compared(">=", equal.count, 1), at(new))
+        is_one = all_of(compared(sign, new, old), compared(">=", equal.count, 1), at(new))
         self.formula.add(any_of(compared("==", new, old), is_one))
-        if any(map(has_count, loop.tests)):
-            self.extrema.append((new, loop.sign, at))
+        if any(map(has_count, tests)):
+            self.extrema.append((new, sign, at))
         else:
-            beyond = self.counted(lambda message: all_of(compared(loop.sign, message, new), at(message)))
+            beyond = self.counted(lambda message: all_of(compared(sign, message, new), at(message)))
             self.formula.add(compared("==", beyond.count, 0))
-        self.store[loop.target.text] = new
+        return new
 
 
 def chosen_condition(test, one, other):

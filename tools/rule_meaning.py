@@ -104,6 +104,20 @@ def count(term):
     return value
 
 
+def least(term):
+    test = value_of(term.test)
+
+    def value(state):
+        found = NONE
+        for node in range(state.sizes.nodes):
+            state.nodes[term.node] = node
+            if test(state):
+                found = min(found, state.received(node))
+        return found
+
+    return value
+
+
 def inverse(term):
     inner = value_of(term.inner)
     return lambda state: int(inner(state) == 0)
@@ -121,7 +135,7 @@ def choice(term):
 
 TERMS = {
     tree.Number: number, tree.Given: given, tree.Name: named, tree.Mail: mail, tree.Count: count,
-    tree.Inverse: inverse, tree.Binary: binary, tree.Choice: choice,
+    tree.Least: least, tree.Inverse: inverse, tree.Binary: binary, tree.Choice: choice,
 }
 
 

@@ -62,6 +62,13 @@ class Count:
 
 
 @dataclasses.dataclass(frozen=True)
+class Least:
+    node: str
+    test: object
+    place: tuple
+
+
+@dataclasses.dataclass(frozen=True)
 class Inverse:
     inner: object
 
@@ -139,17 +146,17 @@ class Token:
     place: tuple
 
 
-def tokens_of(text, pattern):
+def tokens_of(text, pattern, ends_at_next):
     """The tokens of a text, up to the first fault: the reader refuses it when it comes there."""
     try:
-        yield from sound_tokens(text, pattern)
+        yield from sound_tokens(text, pattern, ends_at_next)
     except Refused as why:
         yield Token("fault", why.name, why.place)
 
 
-def sound_tokens(text, pattern):
-    """The tokens of a text, line by line. `in` and `out` are those of blocks; `end` is where the next line begins."""
-    columns, depth, lines, count = [], 0, 0, 0
+def sound_tokens(text, pattern, ends_at_next):
+    """The tokens of a text, line by line. `in` and `out` are those of blocks; `end` is where a line has ended."""
+    columns, depth, lines, count, ended = [], 0, 0, 0, (1, 1)
     for number, line in enumerate(text.split(b"\n"), 1):
         code = line.split(b"#")[0]
         column = len(code) - len(code.lstrip(b" "))
@@ -157,7 +164,7 @@ def sound_tokens(text, pattern):
         if found and depth == 0:
             place = found[0].place
             if lines:
-                yield Token("end", "end of line", place)
+                yield Token("end", "end of line", place if ends_at_next else ended)
             if lines == MAX_LINES or code[column : column + 1] in b"\t\r":
                 raise Refused("TooLong" if code[column : column + 1] not in b"\t\r" else "BadIndent", place)
             yield from indented(columns, column, place, not lines)
@@ -168,12 +175,14 @@ def sound_tokens(text, pattern):
             if count == MAX_TOKENS:
                 raise Refused("TooLong", token.place)
             depth, count = max(depth + DEEPER.get(token.text, 0), 0), count + 1
+            ended = number, token.place[1] + len(token.text)
             yield token
-    last = (text.count(b"\n") + 1, len(text.split(b"\n")[-1]) + 1)
+    if ends_at_next:
+        ended = text.count(b"\n") + 1, len(text.split(b"\n")[-1]) + 1
     if lines:
-        yield Token("end", "end of line", last)
-    yield from (Token("out", "end of block", last) for _ in columns[1:])
-    yield Token("stop", "end of text", last)
+        yield Token("end", "end of line", ended)
+    yield from (Token("out", "end of block", ended) for _ in columns[1:])
+    yield Token("stop", "end of text", ended)
 
 
 def indented(columns, column, place, is_first):
@@ -187,6 +196,7 @@ def indented(columns, column, place, is_first):
         columns.pop()
         if not columns or column > columns[-1]:
             yield Token("stray", "line of no block's column", place)
+            columns.append(column)
         yield Token("out", "end of block", place)
 
 
@@ -230,14 +240,19 @@ class Reader:
     """Reads a rule as a tree."""
 
     PATTERN = TOKEN
+    # What is missing at the end of a line is missing there, or at the next token.
+    ENDS_AT_NEXT = False
 
     def __init__(self, text):
-        self.tokens, self.now, self.parts, self.blocks = tokens_of(text, self.PATTERN), None, 0, 0
+        self.tokens, self.now = tokens_of(text, self.PATTERN, self.ENDS_AT_NEXT), None
+        self.parts, self.blocks = 0, 0
+        self.after = next(self.tokens)
         self.names = {"clock": ("word", 0)}
         self.next()
 
     def next(self):
-        before, self.now = self.now, next(self.tokens, self.now)  # the last token stays
+        before, self.now = self.now, self.after
+        self.after = next(self.tokens, self.now)  # the last token stays
         return before
 
     def at(self, *texts):
@@ -323,10 +338,12 @@ class Reader:
             for name in [it for it in self.names if it not in names]:
                 del self.names[name]
             return [found]
+        end = self.next()
+        if self.now.kind == "fault" and self.now.text in ("BadIndent", "TooLong"):
+            raise unexpected(self.now)
+        if self.now.kind != "in":
+            raise Refused("Expected", end.place, f"expected {KINDS['in']}, found {end.text}")
         self.next()
-        if self.now.kind == "stray":
-            raise Refused("Expected", self.now.place)
-        self.expect_kind("in")
         self.blocks += 1
         if self.blocks > MAX_PARTS:
             raise Refused("TooDeep", self.now.place)
@@ -407,7 +424,9 @@ class Reader:
 
     def any_term(self):
         if self.at("count"):
-            return self.count()
+            return self.aggregate(Count)
+        if self.is_least():
+            return self.aggregate(Least)
         first = self.either()
         if not self.at("if"):
             return first
@@ -416,11 +435,15 @@ class Reader:
         self.expect("else")
         return Choice(test, first, self.term())
 
-    def count(self):
+    def is_least(self):
+        """Whether `least` is a word here: it isn't reserved, and is one if a name follows."""
+        return self.now.kind == self.after.kind == "name" and self.now.text == "least"
+
+    def aggregate(self, kind):
         place = self.next().place
         name = self.new_name()
         self.expect(":")
-        return Count(name, self.in_scope(name, ("node", None), self.term), place)
+        return kind(name, self.in_scope(name, ("node", None), self.term), place)
 
     def chain(self, part, signs):
         """Parts with signs between them, from the left."""

@@ -57,6 +57,14 @@ class RunningNode(Terms):
             passed.append(chosen(self.holds(term.test), 1, 0))
         return total(*passed)
 
+    def least(self, term):
+        found = NONE
+        for node, message in enumerate(self.inbox):
+            self.nodes[term.node] = node
+            is_less = all_of(self.holds(term.test), compared("<", message, found))
+            found = self.named(chosen(is_less, message, found))
+        return found
+
     def arithmetic(self, term, left, right):
         return wrapped(term.sign, left, right)
 

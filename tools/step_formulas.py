@@ -9,7 +9,9 @@ other), or ("or", one, other). A number is an int, or Variable.
 import dataclasses
 
 from claims_text import ANY, SENT, Field
-from rule_text import LIMIT, NONE, Assignment, Binary, Cases, Choice, Count, Given, Inverse, Let, Mail, Name, Number, Send
+from rule_text import (
+    LIMIT, NONE, Assignment, Binary, Cases, Choice, Count, Given, Inverse, Least, Let, Mail, Name, Number, Send,
+)
 
 OPPOSITE = {"==": "!=", "!=": "==", "<": ">=", ">=": "<", ">": "<=", "<=": ">"}
 MOST_QUANTITIES = 1000
@@ -175,6 +177,8 @@ def form(term, store, around, k):
         return Formed(inner.facts, Truth(found.fails, found.holds), inner.next)
     if isinstance(term, Count):
         return fresh(ALWAYS, k, atom([Variable(k)], [NODES]))
+    if isinstance(term, Least):
+        raise NotCovered("a least message")
     if isinstance(term, Choice):
         return form_choice(term, store, around, k)
     return form_binary(term, store, around, k)

@@ -7,7 +7,7 @@ import re
 import shutil
 import subprocess
 
-from rule_text import LIMIT, Binary, Choice, Count, Given, Inverse, Mail, Name, Number
+from rule_text import LIMIT, Binary, Choice, Count, Given, Inverse, Least, Mail, Name, Number
 
 SAT, UNSAT = "sat", "unsat"
 VALUE = re.compile(r"\(([^\s()]+) (\d+|\(- \d+\)|true|false)\)")
@@ -124,11 +124,11 @@ def wrapped(sign, one, other):
 
 # ---- terms
 
-LEAVES = {Given: "given", Name: "name", Mail: "mail", Count: "count"}
+LEAVES = {Given: "given", Name: "name", Mail: "mail", Count: "count", Least: "least"}
 
 
 class Terms:
-    """The numbers and conditions of terms. What names, messages and counts are is that of a subclass."""
+    """The numbers and conditions of terms. What names and messages are, and what is found of them, is that of a subclass."""
 
     def value(self, term):
         if isinstance(term, Number):

@@ -37,7 +37,7 @@ class Rejected(ClockbedError):
     >>> from clockbed import Bench
     >>> try: Bench(rule="clock = mail[0").run()
     ... except Rejected as why: print(why.kind, why.line, why.column)
-    BadRule 2 1
+    BadRule 1 15
     """
 
     def __init__(self, answer: str, note: str) -> None:

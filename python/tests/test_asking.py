@@ -87,7 +87,7 @@ class ErrorTest(unittest.TestCase):
         return why.part, why.kind, why.line, why.column
 
     def test_a_rule(self):
-        self.assertEqual(self.rejection(Bench(rule="clock = mail[0").run), ("scenario", "BadRule", 2, 1))
+        self.assertEqual(self.rejection(Bench(rule="clock = mail[0").run), ("scenario", "BadRule", 1, 15))
         self.assertEqual(self.rejection(Bench(rule="\nclock = x").verify), ("rule", "UnknownName", 2, 9))
         adversary = Bench().adversary("send 1\nfor j: sendd j to j")
         self.assertEqual(self.rejection(adversary.run), ("scenario", "BadRule", 2, 8))

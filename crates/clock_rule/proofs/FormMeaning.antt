@@ -1,15 +1,15 @@
 -- What forms mean. A rule means what its form does, wherever its boxes lie.
-use Rattle.std.proofs.Common.{◌≡◌, ℕ, zero, suc, ◌+◌, not, nat_lt, if◌then◌else◌, List, [], ◌∷◌, ◌++◌, slice_index, refl, ap, ap₂, ◌∙◌}
+use Rattle.std.proofs.Common.{◌≡◌, ℕ, zero, suc, ◌+◌, min, not, nat_lt, if◌then◌else◌, List, [], ◌∷◌, ◌++◌, slice_index, refl, ap, ap₂, ◌∙◌}
 use Rattle.node_env.specs.Env.{Setting}
 use Rattle.rule_syntax.specs.declared.syntax.Sizes.{Sizes}
 use Rattle.rule_syntax.specs.declared.syntax.Assignment.{Assignment}
 use Rattle.rule_syntax.specs.declared.syntax.Assignment.TheVariants.{One, Also'}
 use Rattle.rule_syntax.specs.declared.syntax.Term.{Term}
-use Rattle.rule_syntax.specs.declared.syntax.Term.TheVariants.{Number, Nodes, Faults, Modulus, Me, Coin, LoopNode, Local, Word, Message', Binary', Logical', Not', Choice', Count'}
+use Rattle.rule_syntax.specs.declared.syntax.Term.TheVariants.{Number, Nodes, Faults, Modulus, Me, Coin, LoopNode, Local, Word, Message', Binary', Logical', Not', Choice', Count', Least'}
 use Rattle.rule_syntax.specs.declared.syntax.Statement.{Statement}
 use Rattle.rule_syntax.specs.declared.syntax.Statement.TheVariants.{Nothing, Then', Let', Assign, If', For', SendAll, SendTo}
-use Rattle.rule_nodes.specs.Meaning.{NodeState, apply_operator, combine, bit_of, truth, count_below, word_at, message_from, value, with_local, assigned, all_assigned, with_sent, sent_below, each_below, after, initial_state, pulse}
-use Rattle.rule_text.specs.Forms.{TermForm, number, nodes, faults, modulus, me, coin, loop_node, local, word, message, binary, logical, inverse, choice, count, AssignmentForm, one, also, StatementForm, nothing, sequence, let_in, assign, branch, each, send_all, send_to, term_form, assignment_form, statement_form}
+use Rattle.rule_nodes.specs.Meaning.{NodeState, apply_operator, combine, bit_of, truth, count_below, least_below, word_at, message_from, value, with_local, assigned, all_assigned, with_sent, sent_below, each_below, after, initial_state, pulse}
+use Rattle.rule_text.specs.Forms.{TermForm, number, nodes, faults, modulus, me, coin, loop_node, local, word, message, binary, logical, inverse, choice, count, least, AssignmentForm, one, also, StatementForm, nothing, sequence, let_in, assign, branch, each, send_all, send_to, term_form, assignment_form, statement_form}
 
 -- ---- terms
 
@@ -31,10 +31,17 @@ form_value (inverse a) z env J u = bit_of (not (truth (form_value a z env J u)))
 form_value (choice t a b) z env J u =
     if truth (form_value t z env J u) then form_value a z env J u else form_value b z env J u
 form_value (count t) z env J u = count_below z.nodes (λ j. form_value t z env (J ++ j ∷ []) u)
+form_value (least t) z env J u =
+    least_below z.nodes (λ j. form_value t z env (J ++ j ∷ []) u) (λ j. message_from z env j)
 
 count_same : (n : ℕ) (f g : ℕ → ℕ) → ((j : ℕ) → f j ≡ g j) → count_below n f ≡ count_below n g
 count_same zero f g h = refl
 count_same (suc n) f g h = ap₂ (λ (x y : ℕ). x + bit_of (truth y)) (count_same n f g h) (h n)
+
+least_same : (n : ℕ) (f g heard : ℕ → ℕ) → ((j : ℕ) → f j ≡ g j) → least_below n f heard ≡ least_below n g heard
+least_same zero f g heard h = refl
+least_same (suc n) f g heard h =
+    ap₂ (λ (x y : ℕ). if truth y then min (heard n) x else x) (least_same n f g heard h) (h n)
 
 chosen_same : (t s a b c d : ℕ) → t ≡ s → a ≡ b → c ≡ d
     → (if truth t then a else c) ≡ (if truth s then b else d)
@@ -61,6 +68,9 @@ value_same (Choice' p t q a r b) z env J u =
     chosen_same _ _ _ _ _ _ (value_same t z env J u) (value_same a z env J u) (value_same b z env J u)
 value_same (Count' p t) z env J u = count_same z.nodes (λ j. value t z env (J ++ j ∷ []) u)
     (λ j. form_value (term_form t) z env (J ++ j ∷ []) u) (λ j. value_same t z env (J ++ j ∷ []) u)
+value_same (Least' p t) z env J u = least_same z.nodes (λ j. value t z env (J ++ j ∷ []) u)
+    (λ j. form_value (term_form t) z env (J ++ j ∷ []) u) (λ j. message_from z env j)
+    (λ j. value_same t z env (J ++ j ∷ []) u)
 
 -- ---- statements
 

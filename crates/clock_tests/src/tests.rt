@@ -1,6 +1,7 @@
 mod clocks;
 mod hostiles;
 mod nodes;
+mod rules;
 mod texts;
 
 use clock_nodes::{ClockRule, LEAST_MODULUS, MAX_MODULUS};

@@ -69,7 +69,7 @@ pub(crate) const OWN: &str = "x_";
 pub(crate) struct Names {
     /// The words of the memory by their places, the clock first.
     pub(crate) words: Vec<String>,
-    /// The names after `let`, `for` and `count`, in the order of the text.
+    /// The names after `let`, `for`, `count` and `least`, in the order of the text.
     pub(crate) made: Vec<String>,
 }
 
@@ -79,6 +79,10 @@ enum Expected {
     Nothing,
     Made,
     Words,
+    /// The name after `least`, if this is a word of a term.
+    AfterLeast,
+    /// The colon after this name: without it, `least` is a name.
+    LeastColon,
 }
 
 fn is_letter(letter: char) -> bool {
@@ -111,11 +115,17 @@ pub(crate) fn code_of(line: &str) -> &str {
     }
 }
 
-/// Returns the words and numbers of a line, with blanks between them.
+/// Returns the words and numbers of a line and the characters of its signs, with blanks between them.
 fn words_of(alloc: Global, line: &str) -> Result<String, AllocError> {
     let mut words = String::new(alloc);
     for letter in code_of(line).chars() {
-        words.push(if is_letter(letter) { letter } else { ' ' })?;
+        if is_letter(letter) {
+            words.push(letter)?;
+        } else {
+            words.push(' ')?;
+            words.push(letter)?;
+            words.push(' ')?;
+        }
     }
     Ok(words)
 }
@@ -125,6 +135,7 @@ fn expected_after(word: &str) -> Expected {
     match word {
         "let" | "for" | "count" => Expected::Made,
         "state" => Expected::Words,
+        "least" => Expected::AfterLeast,
         _ => Expected::Nothing,
     }
 }
@@ -142,18 +153,45 @@ fn add_word(
             Ok(Expected::Nothing)
         }
         Expected::Words => {
-            names.words.push(name_in_c(alloc, word)?)?;
+            if is_word(word) {
+                names.words.push(name_in_c(alloc, word)?)?;
+            }
             Ok(Expected::Words)
+        }
+        Expected::AfterLeast => add_after_least(alloc, names, word),
+        Expected::LeastColon => {
+            if word == ":" {
+                return Ok(Expected::Nothing);
+            }
+            let _no_name = names.made.pop();
+            Ok(expected_after(word))
         }
         Expected::Nothing => Ok(expected_after(word)),
     }
 }
 
-/// Returns what comes after the end of a line: a name may be on the next one.
+fn is_word(word: &str) -> bool {
+    word.chars().all(is_letter)
+}
+
+/// Adds a word after `least`, if a colon can follow it there. Returns what comes after it.
+fn add_after_least(alloc: Global, names: &mut Names, word: &str) -> Result<Expected, AllocError> {
+    match expected_after(word) {
+        Expected::Nothing | Expected::AfterLeast if is_word(word) && word != "else" => {
+            names.made.push(name_in_c(alloc, word)?)?;
+            Ok(Expected::LeastColon)
+        }
+        next => Ok(next),
+    }
+}
+
+/// Returns what comes after the end of a line: a name or its colon may be on the next one.
 fn past_line(expected: Expected) -> Expected {
     match expected {
-        Expected::Made => Expected::Made,
-        Expected::Words | Expected::Nothing => Expected::Nothing,
+        Expected::Words => Expected::Nothing,
+        Expected::Nothing | Expected::Made | Expected::AfterLeast | Expected::LeastColon => {
+            expected
+        }
     }
 }
 

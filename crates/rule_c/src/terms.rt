@@ -166,11 +166,11 @@ fn form_of(operator: Operator, second: &Term) -> Form {
     }
 }
 
-/// Returns how many names the counts of a term make.
+/// Returns how many names the aggregates of a term make.
 fn names_made(term: &Term) -> usize {
     match term {
         Term::Message(a) | Term::Not(a) => names_made(a),
-        Term::Count(a) => names_made(a).saturating_add(1),
+        Term::Count(a) | Term::Least(a) => names_made(a).saturating_add(1),
         Term::Binary(_, a, b) | Term::Logical(_, a, b) => {
             names_made(a).saturating_add(names_made(b))
         }
@@ -234,6 +234,22 @@ fn add_leaf(page: &mut Page<'_>, term: &Term, scope: Scope<'_>) -> Result<(), Al
     }
 }
 
+/// Adds an aggregate over the nodes up to its condition. Returns the place of its name.
+fn add_aggregate(page: &mut Page<'_>, front: &str) -> Result<usize, AllocError> {
+    let name = page.take_made();
+    page.add(front)?;
+    add_made(page, Some(&name))?;
+    page.add(", ")?;
+    Ok(name)
+}
+
+fn aggregate_front(term: &Term) -> &'static str {
+    match term {
+        Term::Least(_) => "LEAST(",
+        _ => "COUNT(",
+    }
+}
+
 /// Adds the expression of a term at a place.
 pub(crate) fn add_term(
     alloc: Global,
@@ -281,11 +297,8 @@ pub(crate) fn add_term(
             page.add(" : ")?;
             add_term(alloc, page, b, scope, Place::OfComparison)?;
         }
-        Term::Count(a) => {
-            let name = page.take_made();
-            page.add("COUNT(")?;
-            add_made(page, Some(&name))?;
-            page.add(", ")?;
+        Term::Count(a) | Term::Least(a) => {
+            let name = add_aggregate(page, aggregate_front(term))?;
             let loops = within(alloc, scope.loops, name)?;
             let inner = Scope {
                 lets: scope.lets,

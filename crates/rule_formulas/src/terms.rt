@@ -271,6 +271,15 @@ fn counting(alloc: Global, k: u32) -> Result<Formed, Unformed>
     fresh(alloc, facts, k, is)
 }
 
+/// Returns a least message, of which nothing is said.
+fn any_number(alloc: Global, k: u32) -> Result<Formed, Unformed>
+    ensures { IfOk result (λ m. IsFormed m (paths.any_number k)) }
+{
+    let facts = always(alloc)?;
+    let is = always(alloc)?;
+    fresh(alloc, facts, k, is)
+}
+
 /// Returns the formula of one side of a choice.
 fn side(alloc: Global, test: Formula, y: Valued, r: Number) -> Result<Formula, Unformed>
     ensures { IfOk result (λ m. (p : Relation) (g : paths.Numbered) → Implies p test → IsValued y g →
@@ -353,5 +362,6 @@ pub fn form<'a>(
             choice(alloc, x, y, w)
         }
         Term::Count(_test) => counting(alloc, k),
+        Term::Least(_test) => any_number(alloc, k),
     }
 }

@@ -1,6 +1,7 @@
 -- How tight the levels of terms are, and which tokens begin a term of a level or go on with one.
-use Rattle.std.proofs.Common.{◌≡◌, ◌⊎◌, inl, inr, ℕ, ◌<◌, ◌≤◌, List, [], ◌∷◌, ◌++◌, refl, sym, ap, subst, ◌∙◌, arith}
-use Rattle.std.specs.Prelude.{Option, Some, None, option_map}
+use Rattle.std.proofs.Common.{◌≡◌, ◌⊎◌, inl, inr, ℕ, ◌<◌, ◌≤◌, List, [], ◌∷◌, ◌++◌, refl, sym, ap, subst, ◌∙◌, arith, append_assoc}
+use Rattle.std.specs.Prelude.{Bool, true, false, cond, ◌&&◌, Option, Some, None, option_map, codes}
+use Rattle.std.proofs.lemmas.Slice.Eq.{bytes_eq-Decides}
 use Rattle.rule_syntax.specs.declared.syntax.Comparison.{Comparison}
 use Rattle.rule_text.specs.declared.signs.Sign.{Sign}
 use Rattle.rule_text.specs.declared.signs.Sign.TheVariants as signs
@@ -8,13 +9,17 @@ use Rattle.rule_text.specs.declared.lexemes.Kind.{Kind}
 use Rattle.rule_text.specs.declared.lexemes.Kind.TheVariants.{Number, Named, Mark, Fault}
 use Rattle.rule_text.specs.declared.lexemes.Token.{Token}
 use Rattle.rule_text.specs.declared.scope.Entry.{Entry}
+use Rattle.rule_text.specs.declared.scope.Maker.{Maker}
+use Rattle.rule_text.specs.declared.aggregates.Aggregate.{Aggregate}
+use Rattle.rule_text.specs.declared.aggregates.Aggregate.TheVariants as aggregates
 use Rattle.rule_text.specs.declared.joints.Joint.{Joint}
 use Rattle.rule_text.specs.declared.joints.Chain.{Chain}
 use Rattle.rule_text.specs.declared.joints.Chain.TheVariants as chains
 use Rattle.rule_text.specs.Forms.{TermForm}
-use Rattle.rule_text.specs.Terms.{rest_after, joint_by, joint_of, comparison_by, comparison_of, joint_in, comparison_in, leaf_of}
+use Rattle.rule_text.specs.Scopes.{letters_of}
+use Rattle.rule_text.specs.Terms.{is_least, is_named, begins_with_name, after_least, aggregate_in, rest_after, joint_by, joint_of, comparison_by, comparison_of, joint_in, comparison_in, leaf_of}
 use Rattle.rule_text.specs.Spelling as s
-use Rattle.rule_grammar.proofs.Readings.{no_front, Clear, clear_kind, First, first_is, first_more, first_up, first_clear}
+use Rattle.rule_grammar.proofs.Readings.{after_sign, no_sign, first_no, no_front, Clear, clear_kind, First, first_is, first_more, first_up, first_clear}
 
 abbrev pub rank : s.Level → ℕ
 rank s.atom = 0
@@ -61,13 +66,14 @@ sign_grip a = 8
 abbrev pub grip : Kind → ℕ
 grip (Mark a) = sign_grip a
 grip (Fault e) = 0
+grip (Named name) = 0
 grip kind = 8
 
 abbrev pub grip_in : List Token → ℕ
 grip_in [] = 8
 grip_in (t ∷ ts) = grip t.kind
 
--- a term of the level ends before these tokens, of which the first is no fault
+-- a term of the level ends before these tokens, of which the first is no fault and no name
 pub record Ends (level : s.Level) (ts : List Token) : Type 0 where
   pub is : rank level < grip_in ts
 
@@ -188,6 +194,8 @@ begins (s.chosen {xs = xs} {ts = ts} {ys = ys} {i = i} {e = e} d is_if test is_e
     first_more opening 6 7 xs (i ∷ (ts ++ (e ∷ ys))) (omega arith) (begins d)
 begins (s.counted {ts = ts} {c = c} {n = n} {d = d} is_count new colon body) =
     first_is opening 7 (Mark signs.Count) c (n ∷ d ∷ ts) is_count (omega arith)
+begins (s.least_of {ts = ts} {l = l} {n = n} {d = d} is_least new colon body) =
+    first_is opening 7 (Named is_least.name) l (n ∷ d ∷ ts) is_least.named (omega arith)
 begins (s.joined {kind = kind} {xs = xs} {ys = ys} o d e other) =
     first_more opening (rank (s.chain kind)) (rank (s.chain kind)) xs (o ∷ ys) (omega arith) (begins d)
 begins (s.not_so {ts = ts} {o = o} is_not d) = first_is opening 4 (Mark signs.Not) o ts is_not (omega arith)
@@ -210,3 +218,105 @@ pub term_clear : {text : List ℕ} {level : s.Level} {names : List Entry} {ts : 
 term_clear {text} {level} {names} {ts} d rest =
     let low = rank_low level in
     first_clear opening (rank level) (ts ++ rest) (starts d rest) (λ e. omega arith)
+
+-- ---- aggregates
+
+and_false : (b : Bool) → (b && false) ≡ false
+and_false true = refl
+and_false false = refl
+
+-- a name, and directly after it another
+abbrev pub two_names : List Token → Bool
+two_names [] = false
+two_names (t ∷ ts) = is_named t.kind && begins_with_name ts
+
+one_name : (t : Token) (ts : List Token) → begins_with_name ts ≡ false → two_names (t ∷ ts) ≡ false
+one_name t ts e = ap (λ (b : Bool). is_named t.kind && b) e ∙ and_false (is_named t.kind)
+
+first_sign : (a : Sign) (t : Token) (ts : List Token) → s.IsSign a t → two_names (t ∷ ts) ≡ false
+first_sign a t ts h = ap (λ (k : Kind). is_named k && begins_with_name ts) h.is
+
+pub sign_nameless : (a : Sign) (t : Token) (ts : List Token) → s.IsSign a t → begins_with_name (t ∷ ts) ≡ false
+sign_nameless a t ts h = ap is_named h.is
+
+pub ends_nameless : (level : s.Level) (ts : List Token) → Ends level ts → begins_with_name ts ≡ false
+ends_nameless level [] h = refl
+ends_nameless level (t ∷ ts) h = by t.kind refl
+  where
+    by : (k : Kind) → t.kind ≡ k → is_named t.kind ≡ false
+    by (Named name) e = let same = ap grip e in let less = h.is in absurd (omega arith)
+    by k e = ap is_named e
+
+joint_nameless : (kind : Chain) (k : Kind) (joint : Joint) → joint_of kind k ≡ Some joint → is_named k ≡ false
+joint_nameless kind (Named name) joint e = absurd (let no : None ≡ Some joint = e in cc)
+joint_nameless kind k joint e = refl
+
+comparison_nameless : (k : Kind) (comparison : Comparison) → comparison_of k ≡ Some comparison → is_named k ≡ false
+comparison_nameless (Named name) comparison e = absurd (let no : None ≡ Some comparison = e in cc)
+comparison_nameless k comparison e = refl
+
+-- a term that is no whole one doesn't begin with two names
+apart : {text : List ℕ} {level : s.Level} {names : List Entry} {ts : List Token} {a : TermForm}
+    → s.IsTerm text level names ts a → rank level ≤ 6 → (rest : List Token) → begins_with_name rest ≡ false
+    → two_names (ts ++ rest) ≡ false
+apart (s.alone {level = level} d) low rest e = let less = tighter_rank level in apart d (omega arith) rest e
+apart (s.chosen d is_if test is_else other) low rest e = absurd (omega arith)
+apart (s.counted is_count new colon d) low rest e = absurd (omega arith)
+apart (s.least_of is_least new colon d) low rest e = absurd (omega arith)
+apart (s.joined {kind = kind} {xs = xs} {ys = ys} {joint = joint} o d is other) low rest e =
+    rw (append_assoc xs (o ∷ ys) rest) (apart d low (o ∷ (ys ++ rest)) (joint_nameless kind o.kind joint is))
+apart (s.not_so {ts = ts} {o = o} is_not d) low rest e = first_sign signs.Not o (ts ++ rest) is_not
+apart (s.beside {xs = xs} {ys = ys} {comparison = comparison} o d is other) low rest e =
+    rw (append_assoc xs (o ∷ ys) rest)
+    (apart d (omega arith) (o ∷ (ys ++ rest)) (comparison_nameless o.kind comparison is))
+apart (s.numeral {t = t} h) low rest e = one_name t rest e
+apart (s.named {t = t} h is) low rest e = one_name t rest e
+apart (s.given {t = t} h is) low rest e = one_name t rest e
+apart (s.received {ts = ts} {m = m} {o = o} {c = c} h opens d closes) low rest e =
+    first_sign signs.Mail m (o ∷ ((ts ++ (c ∷ [])) ++ rest)) h
+apart (s.bracketed {ts = ts} {o = o} {c = c} h d closes) low rest e =
+    first_sign signs.Open o ((ts ++ (c ∷ [])) ++ rest) h
+
+no_least : (text : List ℕ) (ts : List Token) → two_names ts ≡ false → after_least text ts ≡ None
+no_least text [] e = refl
+no_least text (t ∷ ts) e = ap (λ (b : Bool). cond b (Some ts) None) (by t.kind e)
+  where
+    by : (k : Kind) → (is_named k && begins_with_name ts) ≡ false → (is_least text k && begins_with_name ts) ≡ false
+    by (Named name) f = ap (λ (b : Bool). is_least text (Named name) && b) f ∙ and_false (is_least text (Named name))
+    by k f = refl
+
+-- the aggregate of a sign that may be first, or of `least`
+abbrev found_first : List ℕ → List Token → Option (List Token) → Option (Aggregate × List Token)
+found_first text ts o = elim o [
+  | Some rest ↦ Some (aggregates.Count, rest)
+  | None ↦ option_map (λ rest. (aggregates.Least, rest)) (after_least text ts)
+]
+
+abbrev found_later : Option (List Token) → Option (Aggregate × List Token)
+found_later o = option_map (λ rest. (aggregates.Least, rest)) o
+
+-- no aggregate begins a term that is no whole one
+pub no_aggregate : {text : List ℕ} {level : s.Level} {names : List Entry} {ts : List Token} {a : TermForm}
+    → s.IsTerm text level names ts a → rank level ≤ 6 → (rest : List Token) → begins_with_name rest ≡ false
+    → aggregate_in text (ts ++ rest) ≡ None
+no_aggregate {text} {level} {names} {ts} d low rest e =
+    let us = ts ++ rest in
+    ap (found_first text us) (first_no opening (rank level) signs.Count us (starts d rest) (omega arith))
+    ∙ ap found_later (no_least text us (apart d low rest e))
+
+pub count_first : (text : List ℕ) (t : Token) (ts : List Token) → s.IsSign signs.Count t
+    → aggregate_in text (t ∷ ts) ≡ Some (aggregates.Count, ts)
+count_first text t ts h = ap (found_first text (t ∷ ts)) (after_sign signs.Count t ts h)
+
+pub least_first : (text : List ℕ) (maker : Maker) (known more : List Entry) (t u : Token) (us : List Token)
+    → s.IsNameOf text (codes "least") t → s.IsNew text maker known u more
+    → aggregate_in text (t ∷ u ∷ us) ≡ Some (aggregates.Least, u ∷ us)
+least_first text maker known more t u us h new =
+    let word : is_least text t.kind ≡ true = ap (is_least text) h.named.is
+    ∙ (bytes_eq-Decides (letters_of text h.name) (codes "least")).1 h.written in
+    let name : begins_with_name (u ∷ us) ≡ true = ap is_named new.named.is in
+    let both : (is_least text t.kind && begins_with_name (u ∷ us)) ≡ true =
+    ap (λ (b : Bool). b && begins_with_name (u ∷ us)) word ∙ name in
+    let least : after_least text (t ∷ u ∷ us) ≡ Some (u ∷ us) = ap (λ (b : Bool). cond b (Some (u ∷ us)) None) both in
+    ap (found_first text (t ∷ u ∷ us)) (no_sign signs.Count (Named h.name) t (u ∷ us) h.named refl)
+    ∙ ap found_later least

@@ -15,6 +15,8 @@ use Rattle.rule_text.specs.declared.scope.Entry.{Entry}
 use Rattle.rule_text.specs.declared.scope.Maker.{Maker}
 use Rattle.rule_text.specs.declared.scope.Maker.TheVariants as makers
 use Rattle.rule_text.specs.declared.scope.TheConstants.{MAX_NAMES}
+use Rattle.rule_text.specs.declared.aggregates.Aggregate.{Aggregate}
+use Rattle.rule_text.specs.declared.aggregates.Aggregate.TheVariants as aggregates
 use Rattle.rule_text.specs.declared.joints.Joint.{Joint}
 use Rattle.rule_text.specs.declared.joints.Chain.{Chain}
 use Rattle.rule_text.specs.declared.joints.Chain.TheVariants as chains
@@ -22,10 +24,10 @@ use Rattle.rule_text.specs.declared.terms.Grade.TheVariants.{Whole, Inverse}
 use Rattle.rule_text.specs.declared.terms.TheConstants.{MAX_PARTS}
 use Rattle.rule_text.specs.Forms.{TermForm}
 use Rattle.rule_text.specs.Scopes.{rule_error_at, meaning_of, scope_entry, next_meaning, added, named_entry_by, named_entry, new_name}
-use Rattle.rule_text.specs.Terms.{joint_of, join, named_term, leaf_of, Reader, Inner, leaf, named_atom, marked_atom, atom, chain_step, chain_rest, compare_read, inverse_read, operand_read, chain_read, whole_read, part, term_read}
+use Rattle.rule_text.specs.Terms.{joint_of, join, named_term, leaf_of, aggregated, aggregate_read, Reader, Inner, leaf, named_atom, marked_atom, atom, chain_step, chain_rest, compare_read, inverse_read, operand_read, chain_read, whole_read, part, term_read}
 use Rattle.rule_text.specs.Spelling as s
 use Rattle.rule_grammar.proofs.Readings.{Gives, found, bind, by_some, by_none, IsClear, Clear, limit_in, after_sign, wanted_sign, first_no}
-use Rattle.rule_grammar.proofs.Levels.{Ends, ends_tighter, ends_at, ends_clear, no_if, no_joint, joint_ends, no_comparison, comparison_ends, opening, starts, term_clear}
+use Rattle.rule_grammar.proofs.Levels.{Ends, ends_tighter, ends_at, ends_clear, no_if, no_joint, joint_ends, no_comparison, comparison_ends, ends_nameless, sign_nameless, no_aggregate, count_first, least_first, opening, starts, term_clear}
 
 module _ (text : List ℕ) where
   -- ---- names
@@ -138,7 +140,7 @@ module _ (text : List ℕ) where
   alone_holds : (level : s.Level) (names : List Entry) (ts : List Token) (a : TermForm)
       → s.IsTerm text (s.tighter level) names ts a → Plain (s.tighter level) names ts a → Holds level names ts a
   alone_holds s.whole names ts a d h = λ room rest ends.
-      by_none _ _ (first_no opening 6 signs.Count (ts ++ rest) (starts d rest) (omega arith))
+      by_none _ _ (no_aggregate d (omega arith) rest (ends_nameless s.whole rest ends))
       (bind _ (h room rest (ends_tighter s.whole rest ends)) (by_none _ _ (no_if rest ends) (found refl)))
   alone_holds (s.chain kind) names ts a d h = λ room rest y ends k.
       bind _ (operand_of kind names ts a h room rest ends) (k MAX_LINE_TOKENS)
@@ -165,6 +167,17 @@ module _ (text : List ℕ) where
   named_read o t meaning e =
       subst (λ (q : Option Meaning). Gives (named_atom q t) (named_term meaning)) (sym e) (found refl)
 
+  -- ---- aggregates
+
+  -- what follows the word of an aggregate
+  aggregate_gives : (kind : Aggregate) (names more : List Entry) (n d : Token) (ts : List Token) (a : TermForm)
+      → s.IsNew text makers.Loop names n more → s.IsSign signs.Colon d → s.IsTerm text s.whole more ts a
+      → Plain s.whole more ts a → (room : ℕ) (rest : List Token) → Ends s.whole rest
+      → Gives (aggregate_read (part room text) text names kind (n ∷ d ∷ (ts ++ rest))) (aggregated kind a, rest)
+  aggregate_gives kind names more n d ts a new colon da h room rest ends =
+      bind _ (new_gives makers.Loop names more n (d ∷ (ts ++ rest)) new)
+      (bind _ (wanted_sign signs.Colon d (ts ++ rest) colon) (bind _ (inner_gives da h room rest ends) (found refl)))
+
   -- ---- every term: a chain by what it is when it goes on, since its operators group from the left
 
   holds : {level : s.Level} {names : List Entry} {ts : List Token} {a : TermForm} → s.IsTerm text level names ts a
@@ -176,7 +189,7 @@ module _ (text : List ℕ) where
       let others = ys ++ rest in
       let test = ts ++ (e ∷ others) in
       rw (append_assoc xs (i ∷ (ts ++ (e ∷ ys))) rest, append_assoc ts (e ∷ ys) rest)
-      (by_none _ _ (first_no opening 6 signs.Count (xs ++ (i ∷ test)) (starts dx (i ∷ test)) (omega arith))
+      (by_none _ _ (no_aggregate dx (omega arith) (i ∷ test) (sign_nameless signs.If i test is_if))
       (bind _ (plain dx (holds dx) room (i ∷ test)
       (ends_at (s.chain chains.Either) (Mark signs.If) i test is_if (omega arith)))
       (by_some _ _ (after_sign signs.If i test is_if)
@@ -186,10 +199,12 @@ module _ (text : List ℕ) where
       (bind _ (inner_gives dy (holds dy) room rest ends) (found refl)))))))
   holds (s.counted {names = names} {more = more} {ts = ts} {c = c} {n = n} {d = d} is_count new colon da) =
       λ room rest ends.
-      by_some _ _ (after_sign signs.Count c (n ∷ d ∷ (ts ++ rest)) is_count)
-      (bind _ (new_gives makers.Loop names more n (d ∷ (ts ++ rest)) new)
-      (bind _ (wanted_sign signs.Colon d (ts ++ rest) colon)
-      (bind _ (inner_gives da (holds da) room rest ends) (found refl))))
+      by_some _ _ (count_first text c (n ∷ d ∷ (ts ++ rest)) is_count)
+      (aggregate_gives aggregates.Count names more n d ts _ new colon da (holds da) room rest ends)
+  holds (s.least_of {names = names} {more = more} {ts = ts} {l = l} {n = n} {d = d} is_least new colon da) =
+      λ room rest ends.
+      by_some _ _ (least_first text makers.Loop names more l n (d ∷ (ts ++ rest)) is_least new)
+      (aggregate_gives aggregates.Least names more n d ts _ new colon da (holds da) room rest ends)
   holds (s.joined {kind = kind} {names = names} {xs = xs} {ys = ys} {a = a} {b = b} {joint = joint} o dx e dy) =
       λ room rest y ends k.
       let ending = joint_ends kind o (ys ++ rest) joint e in

@@ -10,7 +10,7 @@ use Rattle.rule_text.specs.declared.lexemes.Kind.{Kind}
 use Rattle.rule_text.specs.declared.lexemes.Kind.TheVariants.{Mark, Fault}
 use Rattle.rule_text.specs.declared.lexemes.Token.{Token}
 use Rattle.rule_text.specs.Signs.{is_same}
-use Rattle.rule_text.specs.Scopes.{◌>>=◌, told_instead, rule_error_at, error_in}
+use Rattle.rule_text.specs.Scopes.{◌>>=◌, told_instead, error_position, error_of, rule_error_at, error_in}
 use Rattle.rule_text.specs.Terms.{is_of_sign, rest_after, wanted}
 use Rattle.rule_text.specs.Spelling as s
 use Rattle.rule_text.proofs.SpelledTerms.{after_front}
@@ -106,10 +106,10 @@ pub limit_at : {A : Type 0} (e : RuleError) (t : Token) (y : A) → IsLimit e �
     → Gives (Err (rule_error_at e t)) y
 limit_at e t y limit clear = stopped (record {
   error = e;
-  line = t.line;
-  column = t.column;
+  line = (error_position e t).line;
+  column = (error_position e t).column;
   limit = limit;
-  is = ap (λ (x : RuleError). Err (At x t.line t.column)) (clear e);
+  is = ap (λ (x : RuleError). Err (error_of x (error_position e t))) (clear e);
 })
 
 pub limit_in : {A : Type 0} (e : RuleError) (ts : List Token) (y : A) → IsLimit e → Clear ts

@@ -31,24 +31,27 @@ use Rattle.rule_syntax.specs.declared.syntax.Target.{Target}
 use Rattle.rule_syntax.specs.declared.syntax.Target.TheVariants.{ToLocal, ToWord}
 use Rattle.rule_syntax.specs.declared.syntax.Assignment.{Assignment}
 use Rattle.rule_syntax.specs.declared.syntax.Assignment.TheVariants.{One, Also'}
+use Rattle.rule_nodes.specs.declared.numbers.Tally.{Tally}
+use Rattle.rule_nodes.specs.declared.numbers.Tally.TheVariants.{HowMany, LeastMessage}
 use Rattle.rule_nodes.specs.declared.numbers.Source.{Source}
 use Rattle.rule_nodes.specs.declared.numbers.Source.TheVariants.{Constant, FromLocal, FromWord, Computed}
 use Rattle.rule_syntax.specs.declared.syntax.Term.{Term}
-use Rattle.rule_syntax.specs.declared.syntax.Term.TheVariants.{Me, Coin, Local, Binary', Count'}
+use Rattle.rule_syntax.specs.declared.syntax.Term.TheVariants.{Me, Coin, Local, Binary', Count', Least'}
 use Rattle.rule_syntax.specs.declared.syntax.Statement.{Statement}
 use Rattle.rule_syntax.specs.declared.syntax.Statement.TheVariants.{Nothing, Then', Let', Assign, If', For', SendAll, SendTo}
 use Rattle.rule_syntax.specs.declared.syntax.Operator.TheVariants.{Compute}
-use Rattle.rule_nodes.specs.Meaning.{NodeState, apply, value, count_below, word_at, truth, with_local, assigned, all_assigned, with_sent, sent_below, each_below, after}
+use Rattle.rule_nodes.specs.Meaning.{NodeState, apply, value, word_at, message_from, truth, with_local, assigned, all_assigned, with_sent, sent_below, each_below, after}
 use Rattle.rule_nodes.specs.Operands.{is_constant, constant_number, is_local, is_operand, is_asked, is_steady, depth_behind, term_source}
 use Rattle.rule_nodes.specs.Fits.{HasPlace, Fits, TargetFits, AssignmentFits, BlockFits}
-use Rattle.rule_nodes.specs.Code.{number_place, fetch_code, keep_code, copy, cond_of, counted_code, count_test, term_code, stored_code, passed_code, send_to_constant_code, assign_code, place_code, word_code, set_code, given_code, alu_op_of, change_place, changing_insn, one_code, also_code, assignment_code, get_code, send_code, send_codes, send_all_code, send_to_code, each_code, is_nothing, block_code}
+use Rattle.rule_nodes.specs.Code.{number_place, fetch_code, keep_code, copy, cond_of, tallied_code, tally_test, term_code, stored_code, passed_code, send_to_constant_code, assign_code, place_code, word_code, set_code, given_code, alu_op_of, change_place, changing_insn, one_code, also_code, assignment_code, get_code, send_code, send_codes, send_all_code, receiver_code, send_to_code, each_code, is_nothing, block_code}
 use Rattle.rule_nodes.proofs.Small.{compared, imm_low, apply_small}
 use Rattle.rule_nodes.proofs.Forms.{copies, operates_in, stores_number, stays, once, chain, further}
 use Rattle.rule_nodes.proofs.Words.{word_small, word_stored, word_low, word_length, word_bytes}
 use Rattle.rule_nodes.proofs.Places.{inside, IsInside, IsPlace, place_is, not_frame, IsIn, At, IsFramed, in_alike, framed_alike, Placed, fetches, keeps_at, put_at}
-use Rattle.rule_nodes.proofs.States.{stands_front, stands_back, Same, same_self, same_put, same_placed, alike_same, Holds, still_holds, IsSized}
+use Rattle.rule_nodes.proofs.States.{stands_front, stands_back, Same, same_self, same_then, same_put, same_placed, alike_same, Holds, still_holds, IsSized}
 use Rattle.rule_nodes.proofs.Sources.{is_found}
-use Rattle.rule_nodes.proofs.TermRuns.{hop, behind_more, behind_few, IsAt, found_same, source_is, Fetched, get_steps, Has, Gets, gets, here_is, branch_leads, fetch_runs, keep_runs, if_runs, counted_runs, constant_is, constant_small, term_runs, nodes_few}
+use Rattle.rule_nodes.proofs.TallyLaws.{tally_below, tally_small}
+use Rattle.rule_nodes.proofs.TermRuns.{hop, behind_more, behind_few, IsAt, found_same, source_is, Fetched, get_steps, Has, Gets, gets, here_is, branch_leads, fetch_runs, keep_runs, if_runs, TallyTests, tallied_runs, constant_is, constant_small, term_runs, nodes_few}
 
 -- ---- what holds after a write
 
@@ -486,64 +489,64 @@ module _ (program : List Insn) (env : Setting) (last : ℕ) (solid : (k : ℕ) �
       ] in
       subst (λ (j : ℕ). Leads s (if nat_lt m z.nodes then code else []) (Holds env d (End j))) is (both stands room)
 
-  -- with the number in place d and the receiver in r0
-  send_to_runs : (d v x : ℕ) (z : Sizes) (u : NodeState) (t : MachineState) → IsSized z env → d < PLACES → v < 2 ^ 32
-      → x < 2 ^ 32 → Keeps env d u v t → get t.frame.registers 0 ≡ Some (Num x)
-      → Stands program t.frame.slot (send_to_code d z.nodes) → t.frame.slot + 4 ≤ last
+  -- with the receiver m in r0, and a number that is found
+  receiver_runs : (x : Source) (d v m : ℕ) (z : Sizes) (u : NodeState) (t : MachineState) → IsSized z env → v < 2 ^ 32
+      → m < 2 ^ 32 → Holds env d u t → get t.frame.registers 0 ≡ Some (Num m)
+      → Stands program t.frame.slot (receiver_code x z.nodes) → t.frame.slot + 4 ≤ last
+      → ((w : MachineState) → Same (d + 1) t w → insn_at program w.frame.slot ≡ Some (get_code R2 x)
+      → w.frame.slot + 1 ≤ last → Fetched program env last solid R2 w v)
       → Gets program env last solid t (t.frame.slot + 4) 4
-      (Holds env d (if nat_lt x z.nodes then with_sent x v u else u))
-  send_to_runs d v x z u t sized small fits x_fits k r0 stands room =
+      (Holds env d (if nat_lt m z.nodes then with_sent m v u else u))
+  receiver_runs x d v m z u t sized fits m_fits h r0 stands room fetch =
       let n = z.nodes in
       let few : n < 2 ^ 32 = omega (arith, nodes_few program env last solid z sized) in
-      let c = branch_leads program env last solid t t 0 3 (cond_of AtLeast) R0 (operand.Imm (pos n)) x n (nat_le n x)
-      (stays program env t) stands.0 r0 refl (compared AtLeast x n x_fits few) (omega (arith, room)) in
+      let c = branch_leads program env last solid t t 0 3 (cond_of AtLeast) R0 (operand.Imm (pos n)) m n (nat_le n m)
+      (stays program env t) stands.0 r0 refl (compared AtLeast m n m_fits few) (omega (arith, room)) in
       let w = c.new in
       let alike : Same (d + 1) t w = alike_same (d + 1) t w c.fact in
-      let holds : Holds env d u w = still_holds env d (d + 1) u t w (omega arith) k.holds alike in
-      elim (cases_Bool (nat_lt x n)) [
+      let holds : Holds env d u w = still_holds env d (d + 1) u t w (omega arith) h alike in
+      elim (cases_Bool (nat_lt m n)) [
         | inl so ↦
-            let miss : hop (nat_le n x) 3 ≡ 0 = rw (lt-leb n x (ltb-true x n so)) refl in
+            let miss : hop (nat_le n m) 3 ≡ 0 = rw (lt-leb n m (ltb-true m n so)) refl in
             let slot : w.frame.slot ≡ t.frame.slot + 1 = omega (arith, c.slot, miss) in
-            let there = here_is program env last solid w _ (copy R1 R0 ∷ fetch_code R2 (number_place d) ∷ i.Call (pos 3) ∷ []) slot
+            let there = here_is program env last solid w _ (copy R1 R0 ∷ get_code R2 x ∷ i.Call (pos 3) ∷ []) slot
             stands.1 in
             let m0 = w.frame.registers in
-            let w1 = put w (w.frame.slot + 1) R1 (Num x) in
+            let w1 = put w (w.frame.slot + 1) R1 (Num m) in
             let m1 = w1.frame.registers in
             let w2 = put w1 (w.frame.slot + 1 + 1) R2 (Num v) in
-            let w3 = sending w2 (w.frame.slot + 1 + 1 + 1) x v in
-            let from0 : get m0 0 ≡ Some (Num x) = ap (λ m. get m 0) c.fact.registers ∙ r0 in
-            let same1 : Same (d + 1) w w1 = same_put (d + 1) w w (w.frame.slot + 1) R1 (Num x) (omega arith)
+            let w3 = sending w2 (w.frame.slot + 1 + 1 + 1) m v in
+            let from0 : get m0 0 ≡ Some (Num m) = ap (λ r. get r 0) c.fact.registers ∙ r0 in
+            let same1 : Same (d + 1) w w1 = same_put (d + 1) w w (w.frame.slot + 1) R1 (Num m) (omega arith)
             (same_self (d + 1) w) in
-            let from : At d w1 v = same1.places d v (omega arith) (alike.places d v (omega arith) k.there) in
-            let to1 : get w2.frame.registers 1 ≡ Some (Num x) = put_other m1 2 (Num v) 1 (λ e. omega arith)
-            ∙ put_same m0 1 (Num x) in
-            let e1 : step program env w ≡ Ok (Running w1) = copies program env w (w.frame.slot + 1) R1 R0 x there.0 refl
-            (solid _ (omega (arith, room, slot))) from0 x_fits refl in
-            let e2 : step program env w1 ≡ Ok (Running w2) = fetches program env (number_place d) w1 (w.frame.slot + 1 + 1) R2 v
-            (inside d) there.1.0 refl (solid _ (omega (arith, room, slot))) from (same1.framed holds.framed) fits refl in
-            let e3 : step program env w2 ≡ Ok (Running w3) = sends program env w2 (w.frame.slot + 1 + 1 + 1) x v
+            let to1 : get w2.frame.registers 1 ≡ Some (Num m) = put_other m1 2 (Num v) 1 (λ e. omega arith)
+            ∙ put_same m0 1 (Num m) in
+            let e1 : step program env w ≡ Ok (Running w1) = copies program env w (w.frame.slot + 1) R1 R0 m there.0 refl
+            (solid _ (omega (arith, room, slot))) from0 m_fits refl in
+            let g = fetch w1 (same_then (d + 1) t w w1 alike same1) there.1.0 (omega (arith, room, slot)) in
+            let e3 : step program env w2 ≡ Ok (Running w3) = sends program env w2 (w.frame.slot + 1 + 1 + 1) m v
             there.1.1.0 refl (solid _ (omega (arith, room, slot))) to1 (put_same m1 2 (Num v))
-            (omega (arith, ltb-true x n so, sized.nodes)) fits in
+            (omega (arith, ltb-true m n so, sized.nodes)) fits in
             record {
               new = w3;
               run = further program env t w2 w3 3 4
-                  (further program env t w1 w2 2 3 (further program env t w w1 1 2 c.run e1 (omega arith)) e2
+                  (further program env t w1 w2 2 3 (further program env t w w1 1 2 c.run e1 (omega arith)) g.fetched
                   (omega arith))
                   e3 (omega arith);
               slot = omega (arith, slot);
-              fact = subst (λ (y : NodeState). Holds env d y w3) (sym (cond-true (nat_lt x n) (with_sent x v u) u so))
-                  (holds_sent env d x v u w2 (w.frame.slot + 1 + 1 + 1)
+              fact = subst (λ (y : NodeState). Holds env d y w3) (sym (cond-true (nat_lt m n) (with_sent m v u) u so))
+                  (holds_sent env d m v u w2 (w.frame.slot + 1 + 1 + 1)
                   (holds_put env d u w1 (w.frame.slot + 1 + 1) v R2 (omega arith)
-                  (holds_put env d u w (w.frame.slot + 1) x R1 (omega arith) holds)));
+                  (holds_put env d u w (w.frame.slot + 1) m R1 (omega arith) holds)));
             }
         | inr other ↦
-            let hit : hop (nat_le n x) 3 ≡ 3 = rw (le-leb n x (ltb-false x n other)) refl in
+            let hit : hop (nat_le n m) 3 ≡ 3 = rw (le-leb n m (ltb-false m n other)) refl in
             record {
               new = w;
               run = chain program env t w w 1 0 4 c.run (stays program env w) (omega arith);
               slot = omega (arith, c.slot, hit);
               fact = subst (λ (y : NodeState). Holds env d y w)
-                  (sym (cond-false (nat_lt x n) (with_sent x v u) u other)) holds;
+                  (sym (cond-false (nat_lt m n) (with_sent m v u) u other)) holds;
             }
       ]
 
@@ -1095,47 +1098,141 @@ module _ (program : List Insn) (env : Setting) (last : ℕ) (solid : (k : ℕ) �
 
   -- ---- a number to a node
 
-  to_runs : (constant : Bool) (e k : Term) (z : Sizes) (J : List ℕ) (d : ℕ) (u : NodeState) (s : MachineState)
-      → is_constant k ≡ constant → IsSized z env → All (λ j. j < z.nodes) J → d ≤ PLACES → HasPlace constant d
-      → Fits e z (length J) d d → Fits k z (length J) d (depth_behind constant d) → Holds env d u s
-      → Stands program s.frame.slot (if constant then send_to_constant_code (term_source e z J) (constant_number k z J)
-      z.nodes (term_code e z J d Value) else term_code e z J d Value
-      ++ (keep_code (number_place d) ∷ (term_code k z J (d + 1) Value ++ send_to_code d z.nodes)))
-      → s.frame.slot + length (if constant then send_to_constant_code (term_source e z J) (constant_number k z J)
-      z.nodes (term_code e z J d Value) else term_code e z J d Value
-      ++ (keep_code (number_place d) ∷ (term_code k z J (d + 1) Value ++ send_to_code d z.nodes))) ≤ last
-      → Leads s (if constant then send_to_constant_code (term_source e z J) (constant_number k z J)
-      z.nodes (term_code e z J d Value) else term_code e z J d Value
-      ++ (keep_code (number_place d) ∷ (term_code k z J (d + 1) Value ++ send_to_code d z.nodes)))
-      (Holds env d (after (SendTo e k) z env d J u))
-  to_runs true e k z J d u s is sized nodes few free fits k_fits h stands room =
-      constant_runs e k z J d u s is sized nodes few fits h stands room
-  to_runs false e k z J d u s is sized nodes few free fits k_fits h stands room =
+  -- a found one
+  found_to_runs : (x : Source) (e k : Term) (z : Sizes) (J : List ℕ) (d : ℕ) (u : NodeState) (s : MachineState)
+      → is_found x ≡ true → IsAt z d u x (value e z env J u) → IsSized z env → All (λ j. j < z.nodes) J → d ≤ PLACES
+      → Fits k z (length J) d d → Holds env d u s
+      → Stands program s.frame.slot (term_code k z J d Value ++ receiver_code x z.nodes)
+      → s.frame.slot + length (term_code k z J d Value ++ receiver_code x z.nodes) ≤ last
+      → Leads s (term_code k z J d Value ++ receiver_code x z.nodes) (Holds env d (after (SendTo e k) z env d J u))
+  found_to_runs x e k z J d u s found is sized nodes few k_fits h stands room =
       let v = value e z env J u in
-      let x = value k z env J u in
-      let code = term_code k z J (d + 1) Value in
-      let back = send_to_code d z.nodes in
-      let end = if nat_lt x z.nodes then with_sent x v u else u in
+      let m = value k z env J u in
+      let code = term_code k z J d Value in
+      let back = receiver_code x z.nodes in
       let len : length (code ++ back) ≡ length code + 4 = length-append code back in
-      stored_runs e z J d (code ++ back) u s (Holds env d end) sized nodes free fits h stands room
+      let c = term_runs program env last solid k z J d d Value u s sized nodes few (omega arith) k_fits h
+      (stands_front program s.frame.slot code back stands) (omega (arith, len, room)) in
+      let w = c.new in
+      let there = here_is program env last solid w _ back c.slot (stands_back program s.frame.slot code back stands) in
+      let h1 = still_holds env d d u s w (omega arith) h c.fact.same in
+      let g = receiver_runs x d v m z u w sized (found_small env x z d v u s found is sized.memory h) c.fact.small h1
+      c.fact.r0 there (omega (arith, len, room, c.slot))
+      (λ t same here l. get_steps program env last solid R2 x z d v u t refl found is sized few
+      (still_holds env d (d + 1) u w t (omega arith) h1 same) here l) in
+      record {
+        new = g.new;
+        run = chain program env s w g.new (length code) 4 (length (code ++ back)) c.run g.run (omega (arith, len));
+        slot = omega (arith, len, c.slot, g.slot);
+        fact = g.fact;
+      }
+
+  -- by where the number is found: a computed one goes to place d
+  sent_to_runs : (x : Source) (e k : Term) (z : Sizes) (J : List ℕ) (d : ℕ) (u : NodeState) (s : MachineState)
+      → IsAt z d u x (value e z env J u) → IsSized z env → All (λ j. j < z.nodes) J → d ≤ PLACES
+      → (is_found x ≡ false → d < PLACES) → Fits e z (length J) d d → Fits k z (length J) d (depth_behind (is_found x) d)
+      → Holds env d u s
+      → Stands program s.frame.slot (send_to_code x d z.nodes (term_code e z J d Value)
+      (term_code k z J (depth_behind (is_found x) d) Value))
+      → s.frame.slot + length (send_to_code x d z.nodes (term_code e z J d Value)
+      (term_code k z J (depth_behind (is_found x) d) Value)) ≤ last
+      → Leads s (send_to_code x d z.nodes (term_code e z J d Value)
+      (term_code k z J (depth_behind (is_found x) d) Value)) (Holds env d (after (SendTo e k) z env d J u))
+  sent_to_runs (Constant c) e k z J d u s is sized nodes few free fits k_fits h stands room =
+      found_to_runs (Constant c) e k z J d u s refl is sized nodes few k_fits h stands room
+  sent_to_runs (FromLocal j) e k z J d u s is sized nodes few free fits k_fits h stands room =
+      found_to_runs (FromLocal j) e k z J d u s refl is sized nodes few k_fits h stands room
+  sent_to_runs (FromWord j) e k z J d u s is sized nodes few free fits k_fits h stands room =
+      found_to_runs (FromWord j) e k z J d u s refl is sized nodes few k_fits h stands room
+  sent_to_runs Computed e k z J d u s is sized nodes few free fits k_fits h stands room =
+      let v = value e z env J u in
+      let m = value k z env J u in
+      let small = free refl in
+      let code = term_code k z J (d + 1) Value in
+      let back = receiver_code (FromLocal d) z.nodes in
+      let end = if nat_lt m z.nodes then with_sent m v u else u in
+      let len : length (code ++ back) ≡ length code + 4 = length-append code back in
+      stored_runs e z J d (code ++ back) u s (Holds env d end) sized nodes small fits h stands room
       (λ t t1 has p st l.
       let h1 = still_holds env d d u s t (omega arith) h has.same in
       let h2 : Holds env d u t1 = still_holds env d d u t t1 (omega arith) h1
-      (same_placed d d v t t1 (omega arith) free p) in
+      (same_placed d d v t t1 (omega arith) small p) in
       let c = term_runs program env last solid k z J (d + 1) d Value u t1 sized nodes few (omega arith) k_fits h2
       (stands_front program t1.frame.slot code back st) (omega (arith, len, l)) in
       let w = c.new in
       let there = here_is program env last solid w _ back c.slot (stands_back program t1.frame.slot code back st) in
       let kept : At d w v = c.fact.same.places d v (omega arith) p.there in
       let h3 = still_holds env d (d + 1) u t1 w (omega arith) h2 c.fact.same in
-      let g = send_to_runs d v x z u w sized free has.small c.fact.small (record { holds = h3; there = kept })
-      c.fact.r0 there (omega (arith, len, l, c.slot)) in
+      let g = receiver_runs (FromLocal d) d v m z u w sized has.small c.fact.small h3 c.fact.r0 there
+      (omega (arith, len, l, c.slot))
+      (λ y same here l2. record {
+        fetched = fetches program env (number_place d) y (y.frame.slot + 1) R2 v (inside d) here refl (solid _ l2)
+            (same.places d v (omega arith) kept) (same.framed h3.framed) has.small refl;
+        small = has.small;
+      }) in
       record {
         new = g.new;
         run = chain program env t1 w g.new (length code) 4 (length (code ++ back)) c.run g.run (omega (arith, len));
         slot = omega (arith, len, c.slot, g.slot);
         fact = g.fact;
       })
+
+  to_runs : (constant : Bool) (e k : Term) (z : Sizes) (J : List ℕ) (d : ℕ) (u : NodeState) (s : MachineState)
+      → is_constant k ≡ constant → IsSized z env → All (λ j. j < z.nodes) J → d ≤ PLACES
+      → HasPlace (constant || is_operand e) d → Fits e z (length J) d d
+      → Fits k z (length J) d (depth_behind (constant || is_operand e) d) → Holds env d u s
+      → Stands program s.frame.slot (if constant then send_to_constant_code (term_source e z J) (constant_number k z J)
+      z.nodes (term_code e z J d Value) else send_to_code (term_source e z J) d z.nodes (term_code e z J d Value)
+      (term_code k z J (depth_behind (is_operand e) d) Value))
+      → s.frame.slot + length (if constant then send_to_constant_code (term_source e z J) (constant_number k z J)
+      z.nodes (term_code e z J d Value) else send_to_code (term_source e z J) d z.nodes (term_code e z J d Value)
+      (term_code k z J (depth_behind (is_operand e) d) Value)) ≤ last
+      → Leads s (if constant then send_to_constant_code (term_source e z J) (constant_number k z J)
+      z.nodes (term_code e z J d Value) else send_to_code (term_source e z J) d z.nodes (term_code e z J d Value)
+      (term_code k z J (depth_behind (is_operand e) d) Value)) (Holds env d (after (SendTo e k) z env d J u))
+  to_runs true e k z J d u s is sized nodes few free fits k_fits h stands room =
+      constant_runs e k z J d u s is sized nodes few fits h stands room
+  to_runs false e k z J d u s is sized nodes few free fits k_fits h stands room =
+      let x = term_source e z J in
+      let code = λ (simple : Bool). send_to_code x d z.nodes (term_code e z J d Value)
+      (term_code k z J (depth_behind simple d) Value) in
+      let P : Bool → Type 0 = λ simple. Fits k z (length J) d (depth_behind simple d)
+      → Stands program s.frame.slot (code simple) → s.frame.slot + length (code simple) ≤ last
+      → Leads s (code simple) (Holds env d (after (SendTo e k) z env d J u)) in
+      subst P (found_same e z J)
+      (λ f st l. sent_to_runs x e k z J d u s (source_is program env last solid e z J d d u sized nodes fits) sized nodes
+      few (λ q. computed_place (is_operand e) d (sym (found_same e z J) ∙ q) free) fits f h st l) k_fits stands room
+
+  -- ---- a tally that stays in the next place, and what follows
+
+  tally_let_runs : (tally : Tally) (z : Sizes) (d : ℕ) (test : ℕ → List Insn) (back : List Insn) (holds : ℕ → ℕ)
+      (u end : NodeState) (s : MachineState) → IsSized z env → d < PLACES → Holds env d u s
+      → Stands program s.frame.slot (tallied_code tally d z.nodes test ++ back)
+      → s.frame.slot + length (tallied_code tally d z.nodes test ++ back) ≤ last
+      → TallyTests program env last solid tally d z.nodes test holds s
+      → ((t : MachineState)
+      → Holds env (d + 1) (with_local d (tally_below tally z.nodes holds (message_from z env)) u) t
+      → Stands program t.frame.slot back → t.frame.slot + length back ≤ last → Leads t back (Holds env (d + 1) end))
+      → Leads s (tallied_code tally d z.nodes test ++ back) (Holds env d end)
+  tally_let_runs tally z d test back holds u end s sized small h stands room each next =
+      let front = tallied_code tally d z.nodes test in
+      let v = tally_below tally z.nodes holds (message_from z env) in
+      let few = nodes_few program env last solid z sized in
+      let len : length (front ++ back) ≡ length front + length back = length-append front back in
+      let c = tallied_runs program env last solid tally z d test holds s sized small h.framed
+      (stands_front program s.frame.slot front back stands) (omega (arith, len, room)) each in
+      let there = here_is program env last solid c.new _ back c.slot
+      (stands_back program s.frame.slot front back stands) in
+      let h1 = holds_there env d v u c.new (tally_small tally z.nodes holds (message_from z env) (omega (arith, few)))
+      c.fact.there (still_holds env d d u s c.new (omega arith) h c.fact.same) in
+      let g = next c.new h1 there (omega (arith, len, room, c.slot)) in
+      record {
+        new = g.new;
+        run = chain program env s c.new g.new (length front) (length back) (length (front ++ back)) c.run g.run
+            (omega (arith, len));
+        slot = omega (arith, len, c.slot, g.slot);
+        fact = holds_less env d end g.new g.fact;
+      }
 
   pub block_runs : (b : Statement) (z : Sizes) (J : List ℕ) (d : ℕ) (u : NodeState) (s : MachineState) → IsSized z env
       → All (λ j. j < z.nodes) J → d ≤ PLACES → BlockFits b z (length J) d → Holds env d u s
@@ -1165,35 +1262,29 @@ module _ (program : List Insn) (env : Setting) (last : ℕ) (solid : (k : ℕ) �
         fact = g.fact;
       }
   block_runs (Let' (Count' q t) p rest) z J d u s sized nodes few fits h stands room =
-      let test = λ (j : ℕ). term_code t z (J ++ j ∷ []) (d + 1) (count_test d) in
+      let test = λ (j : ℕ). term_code t z (J ++ j ∷ []) (d + 1) (tally_test HowMany d) in
       let holds = λ (j : ℕ). value t z env (J ++ j ∷ []) u in
-      let v = count_below z.nodes holds in
-      let u1 = with_local d v u in
-      let front = counted_code d z.nodes test in
-      let back = block_code rest z J (d + 1) in
-      let end = after rest z env (d + 1) J u1 in
-      let small = nodes_few program env last solid z sized in
-      let len : length (front ++ back) ≡ length front + length back = length-append front back in
-      let c = counted_runs program env last solid d z.nodes test holds s fits.0 small h.framed
-      (stands_front program s.frame.slot front back stands) (omega (arith, len, room))
+      let u1 = with_local d (tally_below HowMany z.nodes holds (message_from z env)) u in
+      tally_let_runs HowMany z d test (block_code rest z J (d + 1)) holds u (after rest z env (d + 1) J u1) s sized fits.0
+      h stands room
       (λ j w lt same st l.
       let more : length J + 1 ≡ length (J ++ j ∷ []) = omega (arith, length-append J (j ∷ [])) in
-      term_runs program env last solid t z (J ++ j ∷ []) (d + 1) d (count_test d) u w sized
+      term_runs program env last solid t z (J ++ j ∷ []) (d + 1) d (tally_test HowMany d) u w sized
       (All-push (λ i. i < z.nodes) J j nodes lt) few (omega arith)
-      (subst (λ (n : ℕ). Fits t z n d (d + 1)) more fits.1.1) (still_holds env d d u s w (omega arith) h same) st l) in
-      let there = here_is program env last solid c.new _ back c.slot
-      (stands_back program s.frame.slot front back stands) in
-      let h1 = holds_there env d v u c.new (omega (arith, c.fact.few, small)) c.fact.there
-      (still_holds env d d u s c.new (omega arith) h c.fact.same) in
-      let g = block_runs rest z J (d + 1) u1 c.new sized nodes (omega (arith, fits.0)) fits.2 h1 there
-      (omega (arith, len, room, c.slot)) in
-      record {
-        new = g.new;
-        run = chain program env s c.new g.new (length front) (length back) (length (front ++ back)) c.run g.run
-            (omega (arith, len));
-        slot = omega (arith, len, c.slot, g.slot);
-        fact = holds_less env d end g.new g.fact;
-      }
+      (subst (λ (n : ℕ). Fits t z n d (d + 1)) more fits.1.1) (still_holds env d d u s w (omega arith) h same) st l)
+      (λ t2 h2 st l. block_runs rest z J (d + 1) u1 t2 sized nodes (omega (arith, fits.0)) fits.2 h2 st l)
+  block_runs (Let' (Least' q t) p rest) z J d u s sized nodes few fits h stands room =
+      let test = λ (j : ℕ). term_code t z (J ++ j ∷ []) (d + 1) (tally_test LeastMessage d) in
+      let holds = λ (j : ℕ). value t z env (J ++ j ∷ []) u in
+      let u1 = with_local d (tally_below LeastMessage z.nodes holds (message_from z env)) u in
+      tally_let_runs LeastMessage z d test (block_code rest z J (d + 1)) holds u (after rest z env (d + 1) J u1) s sized fits.0
+      h stands room
+      (λ j w lt same st l.
+      let more : length J + 1 ≡ length (J ++ j ∷ []) = omega (arith, length-append J (j ∷ [])) in
+      term_runs program env last solid t z (J ++ j ∷ []) (d + 1) d (tally_test LeastMessage d) u w sized
+      (All-push (λ i. i < z.nodes) J j nodes lt) few (omega arith)
+      (subst (λ (n : ℕ). Fits t z n d (d + 1)) more fits.1.1) (still_holds env d d u s w (omega arith) h same) st l)
+      (λ t2 h2 st l. block_runs rest z J (d + 1) u1 t2 sized nodes (omega (arith, fits.0)) fits.2 h2 st l)
   block_runs (Let' e p rest) z J d u s sized nodes few fits h stands room =
       let u1 = with_local d (value e z env J u) u in
       let end = after rest z env (d + 1) J u1 in

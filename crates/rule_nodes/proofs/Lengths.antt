@@ -22,20 +22,23 @@ use Rattle.rule_nodes.specs.declared.numbers.Purpose.{Purpose}
 use Rattle.rule_nodes.specs.declared.numbers.Purpose.TheVariants.{Value, Jump}
 use Rattle.rule_syntax.specs.declared.syntax.Target.{Target}
 use Rattle.rule_syntax.specs.declared.syntax.Target.TheVariants.{ToLocal, ToWord}
+use Rattle.rule_nodes.specs.declared.numbers.Tally.{Tally}
+use Rattle.rule_nodes.specs.declared.numbers.Tally.TheVariants.{HowMany, LeastMessage}
 use Rattle.rule_nodes.specs.declared.numbers.Source.{Source}
 use Rattle.rule_nodes.specs.declared.numbers.Source.TheVariants.{Constant, FromLocal, FromWord, Computed}
 use Rattle.rule_syntax.specs.declared.syntax.Term.{Term}
-use Rattle.rule_syntax.specs.declared.syntax.Term.TheVariants.{Number, Nodes, Faults, Modulus, LoopNode, Local, Word, Message', Binary', Count'}
+use Rattle.rule_syntax.specs.declared.syntax.Term.TheVariants.{Number, Nodes, Faults, Modulus, LoopNode, Local, Word, Message', Binary', Count', Least'}
 use Rattle.rule_syntax.specs.declared.syntax.Assignment.{Assignment}
 use Rattle.rule_syntax.specs.declared.syntax.Assignment.TheVariants.{One, Also'}
 use Rattle.rule_syntax.specs.declared.syntax.Statement.{Statement}
-use Rattle.rule_syntax.specs.declared.syntax.Statement.TheVariants.{Let', For', SendAll}
+use Rattle.rule_syntax.specs.declared.syntax.Statement.TheVariants.{Let', For', SendAll, SendTo}
 use Rattle.rule_nodes.specs.Meaning.{apply_operator}
 use Rattle.rule_nodes.specs.Operands.{is_constant, is_local, is_operand, is_steady, constant_number, depth_behind, fetched_source, term_source, IsSourceWithin}
 use Rattle.rule_nodes.specs.Fits.{Fits, AssignmentFits, BlockFits}
-use Rattle.rule_nodes.specs.Code.{number_place, fetch_code, keep_code, increment_code, set_number, set_node, copy, mirror, jump_on, jump_by, jump_at, jump_register, alu_op_of, far_of, when_of, beyond_purpose, behind_test, by_value, truth_code, get_code, load_code, operand_code, by_operator, left_code, right_code, beside_code, two_code, binary_code, message_code, message_by, count_codes, counted_code, count_code, count_test, term_code, stored_code, let_code, assign_code, place_code, word_code, set_code, given_code, change_place, changing_insn, one_code, also_code, send_codes, send_code, send_all_code, passed_code, send_to_constant_code, each_code, assignment_code, block_code}
+use Rattle.rule_nodes.specs.Code.{number_place, fetch_code, keep_code, set_number, set_node, copy, mirror, jump_on, jump_by, jump_at, jump_register, alu_op_of, far_of, when_of, beyond_purpose, behind_test, by_value, truth_code, get_code, load_code, operand_code, by_operator, left_code, right_code, beside_code, two_code, binary_code, message_code, message_by, tally_step, tally_codes, tallied_code, tally_code, tally_test, term_code, stored_code, let_code, assign_code, place_code, word_code, set_code, given_code, change_place, changing_insn, one_code, also_code, send_codes, send_code, send_all_code, passed_code, send_to_constant_code, receiver_code, send_to_code, each_code, assignment_code, block_code}
 use Rattle.rule_nodes.specs.Refusals.{IsUnmade}
 use Rattle.rule_nodes.proofs.Sources.{is_found}
+use Rattle.rule_nodes.proofs.TallyLaws.{steps_alike}
 
 -- ---- errors
 
@@ -220,29 +223,29 @@ cases_last n m le = elim (cases_lt m (suc n)) [
   | inr above ↦ inr (omega (arith, above, le))
 ]
 
-one_count : (d m : ℕ) (test : ℕ → List Insn)
-    → length (count_codes d test (suc m)) ≡ length (count_codes d test m)
-    + (length (test m) + length (increment_code (number_place d)))
-one_count d m test =
-    let add = increment_code (number_place d) in
-    omega (arith, length-append (count_codes d test m) (test m ++ add), length-append (test m) add)
+one_tally : (step test : ℕ → List Insn) (m : ℕ)
+    → length (tally_codes step test (suc m)) ≡ length (tally_codes step test m) + (length (test m) + length (step m))
+one_tally step test m =
+    omega (arith, length-append (tally_codes step test m) (test m ++ step m), length-append (test m) (step m))
 
-pub counts_long : (d n m : ℕ) (test : ℕ → List Insn) → m ≤ n
-    → length (count_codes d test m) ≤ length (count_codes d test n)
-counts_long d zero zero test le = omega arith
-counts_long d zero (suc m) test le = absurd (omega (arith, le))
-counts_long d (suc n) m test le = elim (cases_last n m le) [
-  | inl less ↦ omega (arith, counts_long d n m test less, one_count d n test)
-  | inr same ↦ let e : length (count_codes d test m) ≡ length (count_codes d test (suc n)) =
-      ap (λ (k : ℕ). length (count_codes d test k)) same in omega arith
+pub tallies_long : (step test : ℕ → List Insn) (n m : ℕ) → m ≤ n
+    → length (tally_codes step test m) ≤ length (tally_codes step test n)
+tallies_long step test zero zero le = omega arith
+tallies_long step test zero (suc m) le = absurd (omega (arith, le))
+tallies_long step test (suc n) m le = elim (cases_last n m le) [
+  | inl less ↦ omega (arith, tallies_long step test n m less, one_tally step test n)
+  | inr same ↦ let e : length (tally_codes step test m) ≡ length (tally_codes step test (suc n)) =
+      ap (λ (k : ℕ). length (tally_codes step test k)) same in omega arith
 ]
 
-pub test_in_counts : (d n m : ℕ) (test : ℕ → List Insn) → m < n
-    → length (test m) + length (increment_code (number_place d)) ≤ length (count_codes d test n)
-test_in_counts d n m test lt = omega (arith, one_count d m test, counts_long d n (suc m) test (omega (arith, lt)))
+pub test_in_tally : (step test : ℕ → List Insn) (n m : ℕ) → m < n
+    → length (test m) + length (step m) ≤ length (tally_codes step test n)
+test_in_tally step test n m lt =
+    omega (arith, one_tally step test m, tallies_long step test n (suc m) (omega (arith, lt)))
 
-pub count_long : (d n : ℕ) (test : ℕ → List Insn) → length (count_code d n test) ≡ length (count_codes d test n) + 2
-count_long d n test = omega (arith, length-append (counted_code d n test) (fetch_code R0 (number_place d) ∷ []))
+pub tally_long : (tally : Tally) (d n : ℕ) (test : ℕ → List Insn) → length (tally_code tally d n test)
+    ≡ length (tally_codes (tally_step tally (number_place d)) test n) + 2
+tally_long tally d n test = omega (arith, length-append (tallied_code tally d n test) (fetch_code R0 (number_place d) ∷ []))
 
 -- ---- statements
 
@@ -363,27 +366,54 @@ right_within whole a b b1 p q o z J lets d e e1 few fits =
     subst (λ (x : Term). IsSourceWithin (term_source x z J) 256) (sym e1)
     (source_within b z J (length J) lets (depth_behind (is_operand a || is_operand b) d) few parts.2)
 
-pub test_part : (whole t t1 : Term) (p : _) (z : Sizes) (J J1 J2 : List ℕ) (d n : ℕ) (purpose skip : Purpose)
-    → whole ≡ Count' p t → skip ≡ count_test d → t1 ≡ t → J1 ≡ J ++ n ∷ [] → J2 ≡ J1 → n < z.nodes
-    → length (term_code t1 z J2 (d + 1) skip) + beyond_purpose skip
+pub count_part : (whole t t1 : Term) (p : _) (z : Sizes) (J : List ℕ) (d : ℕ) (purpose : Purpose) → whole ≡ Count' p t
+    → t1 ≡ t
+    → length (tally_code HowMany d z.nodes (λ j. term_code t1 z (J ++ j ∷ []) (d + 1) (tally_test HowMany d)))
     ≤ length (term_code whole z J d purpose) + beyond_purpose purpose
-test_part whole t t1 p z J J1 J2 d n purpose skip e e0 e1 e2 e3 lt =
-    let test = λ (j : ℕ). term_code t z (J ++ j ∷ []) (d + 1) (count_test d) in
-    let l1 = value_long purpose (count_code d z.nodes test) in
-    let l2 = count_long d z.nodes test in
-    let l3 = test_in_counts d z.nodes n test lt in
-    rw (e, e0, e1, e3, e2) (omega (arith, l1, l2, l3))
+count_part whole t t1 p z J d purpose e e1 =
+    let code = λ (x : Term). tally_code HowMany d z.nodes
+    (λ j. term_code x z (J ++ j ∷ []) (d + 1) (tally_test HowMany d)) in
+    let l : length (code t) ≤ length (by_value purpose (code t)) = value_long purpose (code t) in
+    let same : length (code t1) ≡ length (code t) = ap (λ (x : Term). length (code x)) e1 in
+    let made : length (term_code whole z J d purpose) ≡ length (by_value purpose (code t)) =
+    ap (λ (x : Term). length (term_code x z J d purpose)) e in
+    omega (arith, l, same, made)
 
-pub counts_part : (whole t : Term) (p : _) (z : Sizes) (J : List ℕ) (d n : ℕ) (purpose : Purpose) (new : List Insn)
-    → whole ≡ Count' p t → n + 1 ≤ z.nodes
-    → new ≡ count_codes d (λ j. term_code t z (J ++ j ∷ []) (d + 1) (count_test d)) (n + 1)
-    → length new ≤ length (term_code whole z J d purpose) + beyond_purpose purpose
-counts_part whole t p z J d n purpose new e le e1 =
-    let test = λ (j : ℕ). term_code t z (J ++ j ∷ []) (d + 1) (count_test d) in
-    let l1 = value_long purpose (count_code d z.nodes test) in
-    let l2 = count_long d z.nodes test in
-    let l3 = counts_long d z.nodes (n + 1) test le in
-    rw (e, e1) (omega (arith, l1, l2, l3))
+pub least_part : (whole t t1 : Term) (p : _) (z : Sizes) (J : List ℕ) (d : ℕ) (purpose : Purpose) → whole ≡ Least' p t
+    → t1 ≡ t
+    → length (tally_code LeastMessage d z.nodes (λ j. term_code t1 z (J ++ j ∷ []) (d + 1) (tally_test LeastMessage d)))
+    ≤ length (term_code whole z J d purpose) + beyond_purpose purpose
+least_part whole t t1 p z J d purpose e e1 =
+    let code = λ (x : Term). tally_code LeastMessage d z.nodes
+    (λ j. term_code x z (J ++ j ∷ []) (d + 1) (tally_test LeastMessage d)) in
+    let l : length (code t) ≤ length (by_value purpose (code t)) = value_long purpose (code t) in
+    let same : length (code t1) ≡ length (code t) = ap (λ (x : Term). length (code x)) e1 in
+    let made : length (term_code whole z J d purpose) ≡ length (by_value purpose (code t)) =
+    ap (λ (x : Term). length (term_code x z J d purpose)) e in
+    omega (arith, l, same, made)
+
+pub test_part : (tally : Tally) (t t1 : Term) (z : Sizes) (J J1 J2 : List ℕ) (d n : ℕ) (skip : Purpose)
+    → skip ≡ tally_test tally d → t1 ≡ t → J1 ≡ J ++ n ∷ [] → J2 ≡ J1 → n < z.nodes
+    → length (term_code t1 z J2 (d + 1) skip) + beyond_purpose skip
+    ≤ length (tally_code tally d z.nodes (λ j. term_code t z (J ++ j ∷ []) (d + 1) (tally_test tally d)))
+test_part tally t t1 z J J1 J2 d n skip e0 e1 e2 e3 lt =
+    let step = tally_step tally (number_place d) in
+    let test = λ (j : ℕ). term_code t z (J ++ j ∷ []) (d + 1) (tally_test tally d) in
+    let l1 = tally_long tally d z.nodes test in
+    let l2 = test_in_tally step test z.nodes n lt in
+    let l3 = steps_alike tally (number_place d) n in
+    rw (e0, e1, e3, e2) (omega (arith, l1, l2, l3))
+
+pub tests_part : (tally : Tally) (t : Term) (z : Sizes) (J : List ℕ) (d n : ℕ) (new : List Insn) → n + 1 ≤ z.nodes
+    → new ≡ tally_codes (tally_step tally (number_place d))
+    (λ j. term_code t z (J ++ j ∷ []) (d + 1) (tally_test tally d)) (n + 1)
+    → length new ≤ length (tally_code tally d z.nodes (λ j. term_code t z (J ++ j ∷ []) (d + 1) (tally_test tally d)))
+tests_part tally t z J d n new le e1 =
+    let step = tally_step tally (number_place d) in
+    let test = λ (j : ℕ). term_code t z (J ++ j ∷ []) (d + 1) (tally_test tally d) in
+    let l1 = tally_long tally d z.nodes test in
+    let l2 = tallies_long step test z.nodes (n + 1) le in
+    rw e1 (omega (arith, l1, l2))
 
 -- ---- the parts of assignments and statements
 
@@ -460,14 +490,21 @@ stored_long Computed d code rest f =
     let l = length-append code (keep_code (number_place d) ∷ rest) in
     (omega arith, omega arith)
 
+tallied_long : (tally : Tally) (d n : ℕ) (test : ℕ → List Insn) (rest : List Insn)
+    → (length (tally_code tally d n test) ≤ length (tallied_code tally d n test ++ rest) + 1)
+    × (length rest ≤ length (tallied_code tally d n test ++ rest))
+tallied_long tally d n test rest =
+    let l1 = length-append (tallied_code tally d n test) (fetch_code R0 (number_place d) ∷ []) in
+    let l2 = length-append (tallied_code tally d n test) rest in
+    (omega arith, omega arith)
+
 let_long : (e : Term) (z : Sizes) (J : List ℕ) (d : ℕ) (rest : List Insn)
     → (length (term_code e z J d Value) ≤ length (let_code e z J d rest) + 1)
     × (length rest ≤ length (let_code e z J d rest))
 let_long (Count' p t) z J d rest =
-    let test = λ (j : ℕ). term_code t z (J ++ j ∷ []) (d + 1) (count_test d) in
-    let l1 = length-append (counted_code d z.nodes test) (fetch_code R0 (number_place d) ∷ []) in
-    let l2 = length-append (counted_code d z.nodes test) rest in
-    (omega arith, omega arith)
+    tallied_long HowMany d z.nodes (λ j. term_code t z (J ++ j ∷ []) (d + 1) (tally_test HowMany d)) rest
+let_long (Least' p t) z J d rest =
+    tallied_long LeastMessage d z.nodes (λ j. term_code t z (J ++ j ∷ []) (d + 1) (tally_test LeastMessage d)) rest
 let_long e z J d rest = stored_long (term_source e z J) d (term_code e z J d Value) rest (found_short e z J d)
 
 pub let_within : (whole rest : Statement) (e : Term) (p : _) (x : Source) (z : Sizes) (J : List ℕ) (d : ℕ)
@@ -534,3 +571,51 @@ pub bodies_part : (whole b : Statement) (p : _) (z : Sizes) (J : List ℕ) (d n 
 bodies_part whole b p z J d n new e le e1 =
     let l = eachs_long z.nodes (n + 1) (λ j. block_code b z (J ++ j ∷ []) d) le in
     rw (e, e1) (omega (arith, l))
+
+-- ---- a number to a node that is no constant
+
+send_to_long : (x : Source) (d n : ℕ) (code receiver : List Insn) → (is_found x ≡ true → length code ≡ 1)
+    → (length code ≤ length (send_to_code x d n code receiver))
+    × (length receiver ≤ length (send_to_code x d n code receiver))
+send_to_long (Constant c) d n code receiver f =
+    let one = f refl in
+    let l = length-append receiver (receiver_code (Constant c) n) in
+    (omega arith, omega arith)
+send_to_long (FromLocal k) d n code receiver f =
+    let one = f refl in
+    let l = length-append receiver (receiver_code (FromLocal k) n) in
+    (omega arith, omega arith)
+send_to_long (FromWord k) d n code receiver f =
+    let one = f refl in
+    let l = length-append receiver (receiver_code (FromWord k) n) in
+    (omega arith, omega arith)
+send_to_long Computed d n code receiver f =
+    let back = receiver ++ receiver_code (FromLocal d) n in
+    let l1 = length-append code (keep_code (number_place d) ∷ back) in
+    let l2 = length-append receiver (receiver_code (FromLocal d) n) in
+    (omega arith, omega arith)
+
+send_to_made : (e k : Term) (z : Sizes) (J : List ℕ) (d : ℕ) → is_constant k ≡ false → block_code (SendTo e k) z J d
+    ≡ send_to_code (term_source e z J) d z.nodes (term_code e z J d Value)
+    (term_code k z J (depth_behind (is_operand e) d) Value)
+send_to_made e k z J d other = cond-false (is_constant k)
+    (send_to_constant_code (term_source e z J) (constant_number k z J) z.nodes (term_code e z J d Value))
+    (send_to_code (term_source e z J) d z.nodes (term_code e z J d Value)
+    (term_code k z J (depth_behind (is_operand e) d) Value)) other
+
+pub send_to_value : (e k : Term) (z : Sizes) (J : List ℕ) (d : ℕ) → is_constant k ≡ false
+    → length (term_code e z J d Value) + 0 ≤ length (block_code (SendTo e k) z J d) + 1
+send_to_value e k z J d other =
+    let l = send_to_long (term_source e z J) d z.nodes (term_code e z J d Value)
+    (term_code k z J (depth_behind (is_operand e) d) Value) (found_short e z J d) in
+    omega (arith, l.0, ap length (send_to_made e k z J d other))
+
+pub send_to_receiver : (e k : Term) (z : Sizes) (J : List ℕ) (d deep : ℕ) → is_constant k ≡ false → {simple : Bool}
+    → deep ≡ depth_behind simple d → simple ≡ is_operand e
+    → length (term_code k z J deep Value) + 0 ≤ length (block_code (SendTo e k) z J d) + 1
+send_to_receiver e k z J d deep other is found =
+    let l = send_to_long (term_source e z J) d z.nodes (term_code e z J d Value)
+    (term_code k z J (depth_behind (is_operand e) d) Value) (found_short e z J d) in
+    let same : length (term_code k z J deep Value) ≡ length (term_code k z J (depth_behind (is_operand e) d) Value) =
+    ap (λ (n : ℕ). length (term_code k z J n Value)) (is ∙ ap (λ (x : Bool). depth_behind x d) found) in
+    omega (arith, l.1, same, ap length (send_to_made e k z J d other))

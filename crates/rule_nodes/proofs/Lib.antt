@@ -10,6 +10,7 @@ pub mod Blocks
 pub mod Whole
 pub mod Slots
 pub mod Loops
+pub mod TallyLaws
 pub mod Typing
 pub mod TypedTerms
 pub mod TypedBlocks

@@ -1,6 +1,7 @@
 -- Places, as the machine has them: registers, and bytes of the stack.
 use Rattle.std.proofs.Common.{◌≡◌, ◌≢◌, ℕ, zero, suc, ◌+◌, ◌-◌, ◌*◌, ◌/◌, ◌%◌, ◌^◌, ◌<◌, ◌≤◌, ◌==◌, nat_le, min, true, false, Some, None, Ok, pos, negsuc, ◌+ℤ◌, List, refl, sym, ap, ◌∙◌, arith, subst, inl, inr, ◌⊎◌}
 use Rattle.std.specs.Ordering.{nat_cmp}
+use Rattle.std.specs.Int.{w32, w64, cast_signed, cast_unsigned}
 use Rattle.std.specs.FinMap.{FinMap, get, insert, remove}
 use Rattle.std.proofs.lemmas.Bool.{cases_eq, cases_lt, le-ltb, le-leb}
 use Rattle.node_env.specs.declared.region.Region.TheVariants.{Stack}
@@ -20,8 +21,8 @@ use Rattle.clock_nodes.proofs.Forms.{put_same, put_other, put}
 use Rattle.rule_nodes.specs.declared.numbers.TheConstants.{PLACES}
 use Rattle.rule_nodes.specs.declared.numbers.Place.{Place}
 use Rattle.rule_nodes.specs.declared.numbers.Place.TheVariants.{InRegister, OnStack}
-use Rattle.rule_nodes.specs.Code.{number_place, fetch_code, keep_code, clear_code}
-use Rattle.rule_nodes.proofs.Small.{moved, said}
+use Rattle.rule_nodes.specs.Code.{number_place, fetch_code, keep_code, start_code}
+use Rattle.rule_nodes.proofs.Small.{moved, said, imm_low}
 
 pub place_on_stack : (k : ℕ) → 3 ≤ k → number_place k ≡ OnStack (negsuc (4 * min (k - 3) (PLACES - 4) + 3))
 place_on_stack zero h = absurd (omega (arith, h))
@@ -102,6 +103,16 @@ stacking s to first v = record s {
     kept = still_kept s.frame.kept first 4;
   };
 }
+
+-- of a number that is put there only the low 32 bits count
+stacking_low : (s : MachineState) (to first raw v : ℕ) → raw % 2 ^ 32 ≡ v
+    → stacking s to first raw ≡ stacking s to first v
+stacking_low s to first raw v h =
+    let e0 : raw % 256 ≡ v % 256 = omega (arith, h) in
+    let e1 : raw / 256 % 256 ≡ v / 256 % 256 = omega (arith, h) in
+    let e2 : raw / 256 / 256 % 256 ≡ v / 256 / 256 % 256 = omega (arith, h) in
+    let e3 : raw / 256 / 256 / 256 % 256 ≡ v / 256 / 256 / 256 % 256 = omega (arith, h) in
+    rw (e0, e1, e2, e3) refl
 
 gone : (m : FinMap nat_cmp Word) (k j : ℕ) → get m j ≡ None → get (remove m k) j ≡ None
 gone m k j e = elim (cases_eq j k) [
@@ -288,29 +299,32 @@ module _ (program : List Insn) (env : Setting) where
         fact = stack_in n d v s to is.0 is.1 small;
       }
 
-  -- 0 into a place
-  clears : (p : Place) (d : ℕ) (s : MachineState) (to : ℕ) → IsPlace p d
-      → insn_at program s.frame.slot ≡ Some (clear_code p) → s.frame.slot + 1 ≡ to → BeginsAt program to
-      → IsFramed s → Stored p d 0 s to
-  clears (InRegister register) d s to is here next there framed =
-      let same = said 0 (omega arith) in
+  -- a number of 32 bits into a place
+  starts : (p : Place) (d v : ℕ) (s : MachineState) (to : ℕ) → IsPlace p d
+      → insn_at program s.frame.slot ≡ Some (start_code p v) → s.frame.slot + 1 ≡ to → BeginsAt program to
+      → IsFramed s → v < 2 ^ 32 → Stored p d v s to
+  starts (InRegister register) d v s to is here next there framed small =
+      let same = said v small in
       let free = not_frame register (omega (arith, is.0, is.1)) in
       record {
-        new = put s to register (Num 0);
-        runs = rw (here, next, there, free) refl;
+        new = put s to register (Num v);
+        runs = rw (here, next, there, free, same) refl;
         slot = refl;
-        fact = put_in register d 0 s to is.0 is.1;
+        fact = put_in register d v s to is.0 is.1;
       }
-  clears (OnStack (pos n)) d s to is here next there framed = absurd is
-  clears (OnStack (negsuc n)) d s to is here next there framed =
+  starts (OnStack (pos n)) d v s to is here next there framed small = absurd is
+  starts (OnStack (negsuc n)) d v s to is here next there framed small =
+      let raw = cast_unsigned w64 (cast_signed w32 v) in
       let base = framed.r10 in
       let offset = where_ n (omega (arith, is.0, is.1)) in
       let room = fits_in n (omega (arith, is.0)) in
+      let run : step program env s ≡ Ok (Running (stacking s to (511 - n) raw)) =
+      rw (here, next, there, base, offset, room) refl in
       record {
-        new = stacking s to (511 - n) 0;
-        runs = rw (here, next, there, base, offset, room) refl;
+        new = stacking s to (511 - n) v;
+        runs = run ∙ ap (λ (x : MachineState). Ok (Running x)) (stacking_low s to (511 - n) raw v (imm_low v small));
         slot = refl;
-        fact = stack_in n d 0 s to is.0 is.1 (omega arith);
+        fact = stack_in n d v s to is.0 is.1 small;
       }
 
   -- a number goes into place d
@@ -330,11 +344,11 @@ module _ (program : List Insn) (env : Setting) where
   keeps_at d v s to few here next there e framed small =
       placed_at d v s to (keeps (number_place d) d v s to (place_is d few) here next there e framed small)
 
-  pub clears_at : (d : ℕ) (s : MachineState) (to : ℕ) → d < PLACES
-      → insn_at program s.frame.slot ≡ Some (clear_code (number_place d)) → s.frame.slot + 1 ≡ to → BeginsAt program to
-      → IsFramed s → PlacedAt d 0 s to
-  clears_at d s to few here next there framed =
-      placed_at d 0 s to (clears (number_place d) d s to (place_is d few) here next there framed)
+  pub starts_at : (d v : ℕ) (s : MachineState) (to : ℕ) → d < PLACES
+      → insn_at program s.frame.slot ≡ Some (start_code (number_place d) v) → s.frame.slot + 1 ≡ to → BeginsAt program to
+      → IsFramed s → v < 2 ^ 32 → PlacedAt d v s to
+  starts_at d v s to few here next there framed small =
+      placed_at d v s to (starts (number_place d) d v s to (place_is d few) here next there framed small)
 
   -- what a register alone is given
   pub put_at : (register : Reg) (d v : ℕ) (s : MachineState) (to : ℕ) → number_place d ≡ InRegister register

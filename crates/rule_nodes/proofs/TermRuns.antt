@@ -1,8 +1,8 @@
 -- The runs of terms.
-use Rattle.std.proofs.Common.{◌≡◌, ℕ, zero, suc, ◌+◌, ◌%◌, ◌*◌, ◌^◌, ◌<◌, ◌≤◌, ◌==◌, Bool, true, false, not, if◌then◌else◌, ◌&&◌, ◌||◌, ◌⊎◌, nat_lt, List, [], ◌∷◌, ◌++◌, length, Some, Ok, All, pos, slice_index, slice_get, refl, sym, ap, ◌∙◌, arith, subst, inl, inr, length-append}
+use Rattle.std.proofs.Common.{◌≡◌, ℕ, zero, suc, ◌+◌, ◌%◌, ◌*◌, ◌^◌, ◌<◌, ◌≤◌, ◌==◌, Bool, true, false, not, if◌then◌else◌, ◌&&◌, ◌||◌, ◌⊎◌, min, nat_lt, nat_le, List, [], ◌∷◌, ◌++◌, length, Some, Ok, All, pos, slice_index, slice_get, refl, sym, ap, ◌∙◌, arith, subst, inl, inr, length-append}
 use Rattle.std.specs.Int.{w32, w64, cast_signed, cast_unsigned}
 use Rattle.std.specs.FinMap.{get}
-use Rattle.std.proofs.lemmas.Bool.{cases_Bool, ltb-true, le-leb, cond-true, cond-false, and_parts}
+use Rattle.std.proofs.lemmas.Bool.{cases_Bool, cases_lt, lt-ltb, ltb-true, le-leb, lt-leb, cond-true, cond-false, and_parts}
 use Rattle.std.proofs.lemmas.List.Elements.{All-get_or, All-push}
 use Rattle.node_env.specs.Env.{Setting, received}
 use Rattle.bpf_insn.specs.declared.forms.Reg.{Reg}
@@ -27,7 +27,7 @@ use Rattle.clock_nodes.proofs.Counting.{received_fits}
 use Rattle.rule_syntax.specs.declared.syntax.Sizes.{Sizes}
 use Rattle.rule_syntax.specs.declared.syntax.Operation.{Operation}
 use Rattle.rule_syntax.specs.declared.syntax.Comparison.{Comparison}
-use Rattle.rule_syntax.specs.declared.syntax.Comparison.TheVariants.{NotEqual, Less}
+use Rattle.rule_syntax.specs.declared.syntax.Comparison.TheVariants.{NotEqual, Less, AtLeast}
 use Rattle.rule_syntax.specs.declared.syntax.Operator.{Operator}
 use Rattle.rule_syntax.specs.declared.syntax.Operator.TheVariants.{Compute, Compare}
 use Rattle.rule_syntax.specs.declared.syntax.Connective.{Connective}
@@ -37,17 +37,20 @@ use Rattle.rule_nodes.specs.declared.numbers.Place.{Place}
 use Rattle.rule_nodes.specs.declared.numbers.Place.TheVariants.{InRegister, OnStack}
 use Rattle.rule_nodes.specs.declared.numbers.Purpose.{Purpose}
 use Rattle.rule_nodes.specs.declared.numbers.Purpose.TheVariants.{Value, Jump}
+use Rattle.rule_nodes.specs.declared.numbers.Tally.{Tally}
+use Rattle.rule_nodes.specs.declared.numbers.Tally.TheVariants.{HowMany, LeastMessage}
 use Rattle.rule_nodes.specs.declared.numbers.Source.{Source}
 use Rattle.rule_nodes.specs.declared.numbers.Source.TheVariants.{Constant, FromLocal, FromWord, Computed}
 use Rattle.rule_syntax.specs.declared.syntax.Term.{Term}
-use Rattle.rule_syntax.specs.declared.syntax.Term.TheVariants.{Number, Nodes, Faults, Modulus, Me, Coin, LoopNode, Local, Word, Message', Binary', Logical', Not', Choice', Count'}
-use Rattle.rule_nodes.specs.Meaning.{NodeState, value, word_at, apply, compare, bit_of, truth, apply_operator, combine, message_from, count_below}
+use Rattle.rule_syntax.specs.declared.syntax.Term.TheVariants.{Number, Nodes, Faults, Modulus, Me, Coin, LoopNode, Local, Word, Message', Binary', Logical', Not', Choice', Count', Least'}
+use Rattle.rule_nodes.specs.Meaning.{NodeState, value, word_at, apply, compare, bit_of, truth, apply_operator, combine, message_from}
 use Rattle.rule_nodes.specs.Operands.{is_constant, is_fetched, is_operand, constant_number, depth_behind, fetched_source, term_source}
 use Rattle.rule_nodes.specs.Fits.{HasPlace, Fits}
-use Rattle.rule_nodes.specs.Code.{number_place, fetch_code, keep_code, increment_code, place_operand, load_place, set_number, copy, alu_op_of, cond_of, jump_on, jump_by, jump_at, beyond_purpose, truth_code, by_value, by_test, two_code, get_code, operand_code, load_code, jump_register, by_operator, left_code, right_code, beside_code, binary_code, choice_code, if_code, decides, both_far, both_code, message_code, message_by, mirror, set_node, count_codes, counted_code, count_code, count_test, term_code}
-use Rattle.rule_nodes.proofs.Places.{inside, IsInside, IsPlace, place_is, not_frame, IsIn, At, IsFramed, Placed, fetches, keeps_at, clears_at, put_at}
+use Rattle.rule_nodes.specs.Code.{number_place, fetch_code, keep_code, increment_code, place_operand, load_place, set_number, copy, alu_op_of, cond_of, jump_on, jump_by, jump_at, beyond_purpose, truth_code, by_value, by_test, two_code, get_code, operand_code, load_code, jump_register, by_operator, left_code, right_code, beside_code, binary_code, choice_code, if_code, decides, both_far, both_code, message_code, message_by, mirror, set_node, lower_code, tally_start, tally_step, tally_codes, tallied_code, tally_code, tally_test, term_code}
+use Rattle.rule_nodes.proofs.Places.{inside, IsInside, IsPlace, place_is, not_frame, IsIn, At, IsFramed, Placed, fetches, keeps_at, starts_at, put_at}
 use Rattle.rule_nodes.proofs.Sources.{is_found}
-use Rattle.rule_nodes.proofs.Small.{low, imm_low, mirrored, apply_small, operate_small, taken, compared, truth_of, jump_compared, jump_by_zero, not_not}
+use Rattle.rule_nodes.proofs.TallyLaws.{steps_alike, tally_next, tally_below, tally_none, tally_more, tally_stays, tally_small}
+use Rattle.rule_nodes.proofs.Small.{low, imm_low, mirrored, apply_small, operate_small, taken, compared_low, compared, truth_of, jump_compared, jump_by_zero, not_not}
 use Rattle.rule_nodes.proofs.Words.{word_loaded, word_small}
 use Rattle.rule_nodes.proofs.Forms.{sets_number, copies, operates, counts, passes, jumps, numbers, Reaches, stays, once, chain, further}
 use Rattle.rule_nodes.proofs.States.{stands_front, stands_back, Same, same_self, same_then, same_below, same_less, same_at, same_put, same_call, same_placed, Alike, same_alike, Holds, still_holds, IsSized}
@@ -641,193 +644,6 @@ module _ (program : List Insn) (env : Setting) (last : ℕ) (solid : (k : ℕ) �
             }
       ]
 
-  -- ---- counts
-
-  -- one more in place d
-  increment_runs : (d v : ℕ) (s : MachineState) → d < PLACES → v + 1 < 2 ^ 32 → At d s v → IsFramed s
-      → Stands program s.frame.slot (increment_code (number_place d))
-      → s.frame.slot + length (increment_code (number_place d)) ≤ last
-      → Gets s (s.frame.slot + length (increment_code (number_place d))) (length (increment_code (number_place d)))
-      (InPlace d s (v + 1))
-  increment_runs d v s few small at framed stands le = by (number_place d) refl
-    where
-      by : (p : Place) → number_place d ≡ p → Gets s (s.frame.slot + length (increment_code (number_place d)))
-          (length (increment_code (number_place d))) (InPlace d s (v + 1))
-      by (InRegister register) is =
-          let ours : IsPlace (InRegister register) d = subst (λ (p : Place). IsPlace p d) is (place_is d few) in
-          let st : Stands program s.frame.slot (increment_code (InRegister register)) =
-          subst (λ (p : Place). Stands program s.frame.slot (increment_code p)) is stands in
-          let l : s.frame.slot + 1 ≤ last =
-          subst (λ (p : Place). s.frame.slot + length (increment_code p) ≤ last) is le in
-          let from : get s.frame.registers (register_number register) ≡ Some (Num v) =
-          subst (λ (p : Place). IsIn p s.frame.registers s.frame.stack v) is at in
-          let t = put s (s.frame.slot + 1) register (Num (v + 1)) in
-          let e : step program env s ≡ Ok (Running t) = counts program env s (s.frame.slot + 1) register v st.0 refl
-          (solid _ l) from (not_frame register (omega (arith, ours.0, ours.1))) small in
-          let f : Placed d (v + 1) s t = put_at program env register d (v + 1) s (s.frame.slot + 1) is ours.0 ours.1 in
-          let long : 1 ≡ length (increment_code (number_place d)) = ap (λ (p : Place). length (increment_code p)) (sym is) in
-          record {
-            new = t;
-            run = chain program env s t t 1 0 _ (once program env s t e) (stays program env t) (omega (arith, long));
-            slot = omega (arith, long);
-            fact = record { same = same_placed d d (v + 1) s t (omega arith) few f; there = f.there };
-          }
-      by (OnStack off) is =
-          let st : Stands program s.frame.slot (increment_code (OnStack off)) =
-          subst (λ (p : Place). Stands program s.frame.slot (increment_code p)) is stands in
-          let l : s.frame.slot + 3 ≤ last =
-          subst (λ (p : Place). s.frame.slot + length (increment_code p) ≤ last) is le in
-          let here : insn_at program s.frame.slot ≡ Some (fetch_code R0 (number_place d)) =
-          subst (λ (p : Place). insn_at program s.frame.slot ≡ Some (fetch_code R0 p)) (sym is) st.0 in
-          let last_one : insn_at program (s.frame.slot + 1 + 1) ≡ Some (keep_code (number_place d)) =
-          subst (λ (p : Place). insn_at program (s.frame.slot + 1 + 1) ≡ Some (keep_code p)) (sym is) st.1.1.0 in
-          let c = fetch_runs d d v s (omega (arith, small)) at framed (here, tt) (omega (arith, l)) in
-          let t = c.new in
-          let t1 = put t (t.frame.slot + 1) R0 (Num (v + 1)) in
-          let e : step program env t ≡ Ok (Running t1) = counts program env t (t.frame.slot + 1) R0 v
-          (ap (insn_at program) c.slot ∙ st.1.0) refl (solid _ (omega (arith, l, c.slot))) c.fact.r0 refl small in
-          let has : Has d s (v + 1) t1 = record {
-            same = same_put d s t (t.frame.slot + 1) R0 (Num (v + 1)) (omega arith) c.fact.same;
-            r0 = put_same t.frame.registers 0 (Num (v + 1));
-            small = small;
-          } in
-          let there : insn_at program (t.frame.slot + 1) ≡ Some (keep_code (number_place d)) =
-          ap (λ (n : ℕ). insn_at program (n + 1)) c.slot ∙ last_one in
-          let k = keep_runs d (v + 1) s t1 2 few (further program env s t t1 1 2 c.run e (omega arith)) has framed there
-          (omega (arith, l, c.slot)) in
-          let long : 3 ≡ length (increment_code (number_place d)) = ap (λ (p : Place). length (increment_code p)) (sym is) in
-          gets s _ _ _ _ (InPlace d s (v + 1)) (InPlace d s (v + 1)) (omega (arith, long, c.slot)) (omega (arith, long))
-          (λ w h. h) k
-
-  -- a state with this number, at most m, in place d
-  pub record Counts (d : ℕ) (s : MachineState) (m v : ℕ) (t : MachineState) : Type 0 where
-    pub same : Same d s t
-    pub there : At d t v
-    pub few : v ≤ m
-
-  -- the runs of the tests of a count
-  abbrev pub CountTests : ℕ → ℕ → (ℕ → List Insn) → (ℕ → ℕ) → MachineState → Type 0
-  CountTests d n test holds s = (j : ℕ) (t : MachineState) → j < n → Same d s t → Stands program t.frame.slot (test j)
-      → t.frame.slot + length (test j) + length (increment_code (number_place d)) ≤ last
-      → Gets t (t.frame.slot + length (test j) + landing false (holds j) (length (increment_code (number_place d))))
-      (length (test j)) (Same (d + 1) t)
-
-  counts_run : (d n : ℕ) (test : ℕ → List Insn) (holds : ℕ → ℕ) (s : MachineState) (m : ℕ) → d < PLACES → n < 2 ^ 31
-      → m ≤ n → IsFramed s → Stands program s.frame.slot (count_codes d test m)
-      → s.frame.slot + length (count_codes d test m) ≤ last → At d s 0 → CountTests d n test holds s
-      → Gets s (s.frame.slot + length (count_codes d test m)) (length (count_codes d test m))
-      (Counts d s m (count_below m holds))
-  counts_run d n test holds s zero small few le framed stands fits start each = record {
-    new = s;
-    run = stays program env s;
-    slot = omega arith;
-    fact = record { same = same_self d s; there = start; few = omega arith };
-  }
-  counts_run d n test holds s (suc m) small few le framed stands fits start each =
-      let front = count_codes d test m in
-      let add = increment_code (number_place d) in
-      let back = test m ++ add in
-      let len : length (front ++ back) ≡ length front + (length (test m) + length add) = omega
-      (arith, length-append front back, length-append (test m) add) in
-      let c = counts_run d n test holds s m small few (omega (arith, le)) framed
-      (stands_front program s.frame.slot front back stands) (omega (arith, len, fits)) start each in
-      let t = c.new in
-      let at_back = here_is t _ back c.slot (stands_back program s.frame.slot front back stands) in
-      let g = each m t (omega (arith, le)) c.fact.same (stands_front program t.frame.slot (test m) add at_back)
-      (omega (arith, len, fits, c.slot)) in
-      let w = g.new in
-      let v = count_below m holds in
-      let kept : At d w v = g.fact.places d v (omega arith) c.fact.there in
-      let same : Same d s w = same_then d s t w c.fact.same (same_less d t w g.fact) in
-      let run = chain program env s t w (length front) (length (test m)) (length front + length (test m)) c.run g.run
-      (omega arith) in
-      elim (cases_Bool (truth (holds m))) [
-        | inl so ↦
-            let none : landing false (holds m) (length add) ≡ 0 = rw so refl in
-            let slot : w.frame.slot ≡ t.frame.slot + length (test m) = omega (arith, g.slot, none) in
-            let there = here_is w _ add slot (stands_back program t.frame.slot (test m) add at_back) in
-            let one : v + 1 ≡ count_below (suc m) holds = rw so refl in
-            let x = increment_runs d v w small (omega (arith, c.fact.few, few, le)) kept (same.framed framed) there
-            (omega (arith, len, fits, slot, c.slot)) in
-            record {
-              new = x.new;
-              run = chain program env s w x.new _ (length add) (length (front ++ back)) run x.run (omega (arith, len));
-              slot = omega (arith, len, slot, c.slot, x.slot);
-              fact = record {
-                same = same_then d s w x.new same x.fact.same;
-                there = subst (λ (y : ℕ). At d x.new y) one x.fact.there;
-                few = omega (arith, c.fact.few, one);
-              };
-            }
-        | inr other ↦
-            let all : landing false (holds m) (length add) ≡ length add = rw other refl in
-            let slot : w.frame.slot ≡ t.frame.slot + length (test m) + length add = omega (arith, g.slot, all) in
-            let none : v + 0 ≡ count_below (suc m) holds = rw other refl in
-            let stay : v ≡ count_below (suc m) holds = omega (arith, none) in
-            record {
-              new = w;
-              run = chain program env s w w _ 0 (length (front ++ back)) run (stays program env w) (omega (arith, len));
-              slot = omega (arith, len, slot, c.slot);
-              fact = record {
-                same = same;
-                there = subst (λ (y : ℕ). At d w y) stay kept;
-                few = omega (arith, c.fact.few, stay);
-              };
-            }
-      ]
-
-  pub counted_runs : (d n : ℕ) (test : ℕ → List Insn) (holds : ℕ → ℕ) (s : MachineState) → d < PLACES → n < 2 ^ 31
-      → IsFramed s → Stands program s.frame.slot (counted_code d n test)
-      → s.frame.slot + length (counted_code d n test) ≤ last → CountTests d n test holds s
-      → Gets s (s.frame.slot + length (counted_code d n test)) (length (counted_code d n test))
-      (Counts d s n (count_below n holds))
-  counted_runs d n test holds s small few framed stands fits each =
-      let codes = count_codes d test n in
-      let p = clears_at program env d s (s.frame.slot + 1) small stands.0 refl (solid _ (omega (arith, fits))) framed in
-      let s1 = p.new in
-      let same1 : Same d s s1 = same_placed d d 0 s s1 (omega arith) small p.fact in
-      let c = counts_run d n test holds s1 n small few (omega arith) (p.fact.framed framed)
-      (here_is s1 _ codes p.slot stands.1) (omega (arith, fits, p.slot)) p.fact.there
-      (λ j t lt same. each j t lt (same_then d s s1 t same1 same)) in
-      record {
-        new = c.new;
-        run = chain program env s s1 c.new 1 (length codes) (length (counted_code d n test))
-            (once program env s s1 p.runs) c.run (omega arith);
-        slot = omega (arith, c.slot, p.slot);
-        fact = record {
-          same = same_then d s s1 c.new same1 c.fact.same;
-          there = c.fact.there;
-          few = c.fact.few;
-        };
-      }
-
-  pub count_runs : (d n : ℕ) (test : ℕ → List Insn) (holds : ℕ → ℕ) (s : MachineState) → d < PLACES → n < 2 ^ 31
-      → IsFramed s → Stands program s.frame.slot (count_code d n test)
-      → s.frame.slot + length (count_code d n test) ≤ last → CountTests d n test holds s
-      → Gets s (s.frame.slot + length (count_code d n test)) (length (count_code d n test))
-      (Has d s (count_below n holds))
-  count_runs d n test holds s small few framed stands fits each =
-      let codes = counted_code d n test in
-      let last_one = fetch_code R0 (number_place d) ∷ [] in
-      let len : length (codes ++ last_one) ≡ length codes + 1 = length-append codes last_one in
-      let c = counted_runs d n test holds s small few framed (stands_front program s.frame.slot codes last_one stands)
-      (omega (arith, len, fits)) each in
-      let w = c.new in
-      let v = count_below n holds in
-      let there = here_is w _ last_one c.slot (stands_back program s.frame.slot codes last_one stands) in
-      let g = fetch_runs d d v w (omega (arith, c.fact.few, few)) c.fact.there (c.fact.same.framed framed) there
-      (omega (arith, len, fits, c.slot)) in
-      record {
-        new = g.new;
-        run = chain program env s w g.new (length codes) 1 (length (codes ++ last_one)) c.run g.run (omega (arith, len));
-        slot = omega (arith, len, c.slot, g.slot);
-        fact = record {
-          same = same_then d s w g.new c.fact.same g.fact.same;
-          r0 = g.fact.r0;
-          small = g.fact.small;
-        };
-      }
-
   -- ---- the forms of terms
 
   call_runs : (d answer : ℕ) (s : MachineState) → answer < 2 ^ 32
@@ -1369,6 +1185,264 @@ module _ (program : List Insn) (env : Setting) (last : ℕ) (solid : (k : ℕ) �
   message_by_runs Computed z d lets x u code s is sized stands room first =
       some_node_runs z d x code s sized stands room first
 
+  -- ---- tallies
+
+  -- one more in place d
+  increment_runs : (d v : ℕ) (s : MachineState) → d < PLACES → v + 1 < 2 ^ 32 → At d s v → IsFramed s
+      → Stands program s.frame.slot (increment_code (number_place d))
+      → s.frame.slot + length (increment_code (number_place d)) ≤ last
+      → Gets s (s.frame.slot + length (increment_code (number_place d))) (length (increment_code (number_place d)))
+      (InPlace d s (v + 1))
+  increment_runs d v s few small at framed stands le = by (number_place d) refl
+    where
+      by : (p : Place) → number_place d ≡ p → Gets s (s.frame.slot + length (increment_code (number_place d)))
+          (length (increment_code (number_place d))) (InPlace d s (v + 1))
+      by (InRegister register) is =
+          let ours : IsPlace (InRegister register) d = subst (λ (p : Place). IsPlace p d) is (place_is d few) in
+          let st : Stands program s.frame.slot (increment_code (InRegister register)) =
+          subst (λ (p : Place). Stands program s.frame.slot (increment_code p)) is stands in
+          let l : s.frame.slot + 1 ≤ last =
+          subst (λ (p : Place). s.frame.slot + length (increment_code p) ≤ last) is le in
+          let from : get s.frame.registers (register_number register) ≡ Some (Num v) =
+          subst (λ (p : Place). IsIn p s.frame.registers s.frame.stack v) is at in
+          let t = put s (s.frame.slot + 1) register (Num (v + 1)) in
+          let e : step program env s ≡ Ok (Running t) = counts program env s (s.frame.slot + 1) register v st.0 refl
+          (solid _ l) from (not_frame register (omega (arith, ours.0, ours.1))) small in
+          let f : Placed d (v + 1) s t = put_at program env register d (v + 1) s (s.frame.slot + 1) is ours.0 ours.1 in
+          let long : 1 ≡ length (increment_code (number_place d)) = ap (λ (p : Place). length (increment_code p)) (sym is) in
+          record {
+            new = t;
+            run = chain program env s t t 1 0 _ (once program env s t e) (stays program env t) (omega (arith, long));
+            slot = omega (arith, long);
+            fact = record { same = same_placed d d (v + 1) s t (omega arith) few f; there = f.there };
+          }
+      by (OnStack off) is =
+          let st : Stands program s.frame.slot (increment_code (OnStack off)) =
+          subst (λ (p : Place). Stands program s.frame.slot (increment_code p)) is stands in
+          let l : s.frame.slot + 3 ≤ last =
+          subst (λ (p : Place). s.frame.slot + length (increment_code p) ≤ last) is le in
+          let here : insn_at program s.frame.slot ≡ Some (fetch_code R0 (number_place d)) =
+          subst (λ (p : Place). insn_at program s.frame.slot ≡ Some (fetch_code R0 p)) (sym is) st.0 in
+          let last_one : insn_at program (s.frame.slot + 1 + 1) ≡ Some (keep_code (number_place d)) =
+          subst (λ (p : Place). insn_at program (s.frame.slot + 1 + 1) ≡ Some (keep_code p)) (sym is) st.1.1.0 in
+          let c = fetch_runs d d v s (omega (arith, small)) at framed (here, tt) (omega (arith, l)) in
+          let t = c.new in
+          let t1 = put t (t.frame.slot + 1) R0 (Num (v + 1)) in
+          let e : step program env t ≡ Ok (Running t1) = counts program env t (t.frame.slot + 1) R0 v
+          (ap (insn_at program) c.slot ∙ st.1.0) refl (solid _ (omega (arith, l, c.slot))) c.fact.r0 refl small in
+          let has : Has d s (v + 1) t1 = record {
+            same = same_put d s t (t.frame.slot + 1) R0 (Num (v + 1)) (omega arith) c.fact.same;
+            r0 = put_same t.frame.registers 0 (Num (v + 1));
+            small = small;
+          } in
+          let there : insn_at program (t.frame.slot + 1) ≡ Some (keep_code (number_place d)) =
+          ap (λ (n : ℕ). insn_at program (n + 1)) c.slot ∙ last_one in
+          let k = keep_runs d (v + 1) s t1 2 few (further program env s t t1 1 2 c.run e (omega arith)) has framed there
+          (omega (arith, l, c.slot)) in
+          let long : 3 ≡ length (increment_code (number_place d)) = ap (λ (p : Place). length (increment_code p)) (sym is) in
+          gets s _ _ _ _ (InPlace d s (v + 1)) (InPlace d s (v + 1)) (omega (arith, long, c.slot)) (omega (arith, long))
+          (λ w h. h) k
+
+  -- the message from node j into place d, if it is less than the number there
+  lower_runs : (z : Sizes) (d j v : ℕ) (s : MachineState) → IsSized z env → j < z.nodes → d < PLACES → v < 2 ^ 32
+      → At d s v → IsFramed s → Stands program s.frame.slot (lower_code (number_place d) j)
+      → s.frame.slot + length (lower_code (number_place d) j) ≤ last
+      → Gets s (s.frame.slot + length (lower_code (number_place d) j)) (length (lower_code (number_place d) j))
+      (InPlace d s (min (message_from z env j) v))
+  lower_runs z d j v s sized lt few small at framed stands le =
+      let p = number_place d in
+      let asked = set_node R1 j ∷ i.Call (pos 2) ∷ [] in
+      let left = asked ++ load_place p in
+      let back = jump_by AtLeast (place_operand p) 1 ∷ keep_code p ∷ [] in
+      let len : length (left ++ back) ≡ length left + 2 = length-append left back in
+      let a = received env j in
+      let least = min (message_from z env j) v in
+      let c = place_loaded p (d + 1) a v asked s (inside d) (λ t same. same.places d v (omega arith) at) framed small
+      (stands_front program s.frame.slot left back stands) (omega (arith, len, le))
+      (λ st l. known_node_runs z (d + 1) j s sized lt st l) in
+      let t = c.new in
+      let there = here_is t _ back c.slot (stands_back program s.frame.slot left back stands) in
+      let g = branch_leads s t (length left) 1 (cond_of AtLeast) R0 (place_operand p) a c.fact.raw (nat_le v a) c.run
+      there.0 c.fact.r0 c.fact.other (compared_low AtLeast a v c.fact.raw c.fact.left c.fact.low_bits)
+      (omega (arith, len, le, c.slot)) in
+      let w = g.new in
+      let same : Same (d + 1) s w = same_alike (d + 1) s t w c.fact.same g.fact in
+      let is : a ≡ message_from z env j = sym (cond-true (nat_lt j z.nodes) a 4294967295 (lt-ltb j z.nodes lt)) in
+      elim (cases_lt a v) [
+        | inl less ↦
+            let miss : hop (nat_le v a) 1 ≡ 0 = rw (lt-leb v a less) refl in
+            let slot : w.frame.slot ≡ t.frame.slot + 1 = omega (arith, g.slot, miss) in
+            let e : a ≡ least = omega (arith, is, less) in
+            let has : Has d s a w = record {
+              same = same_less d s w same;
+              r0 = ap (λ m. get m 0) g.fact.registers ∙ c.fact.r0;
+              small = c.fact.left;
+            } in
+            let k = keep_runs d a s w (length left + 1) few g.run has framed (ap (insn_at program) slot ∙ there.1.0)
+            (omega (arith, len, le, slot, c.slot)) in
+            gets s _ _ _ _ (InPlace d s a) (InPlace d s least) (omega (arith, len, slot, c.slot)) (omega (arith, len))
+            (λ x h. subst (λ (y : ℕ). InPlace d s y x) e h) k
+        | inr above ↦
+            let hit : hop (nat_le v a) 1 ≡ 1 = rw (le-leb v a above) refl in
+            let e : v ≡ least = omega (arith, is, above) in
+            record {
+              new = w;
+              run = chain program env s w w (length left + 1) 0 (length (left ++ back)) g.run (stays program env w)
+                  (omega (arith, len));
+              slot = omega (arith, len, g.slot, c.slot, hit);
+              fact = record {
+                same = same_less d s w same;
+                there = subst (λ (y : ℕ). At d w y) e (same.places d v (omega arith) at);
+              };
+            }
+      ]
+
+  step_runs : (tally : Tally) (z : Sizes) (d j v : ℕ) (s : MachineState) → IsSized z env → j < z.nodes → d < PLACES
+      → v < 2 ^ 32 → tally_next tally (message_from z env) j v < 2 ^ 32 → At d s v → IsFramed s
+      → Stands program s.frame.slot (tally_step tally (number_place d) j)
+      → s.frame.slot + length (tally_step tally (number_place d) j) ≤ last
+      → Gets s (s.frame.slot + length (tally_step tally (number_place d) j)) (length (tally_step tally (number_place d) j))
+      (InPlace d s (tally_next tally (message_from z env) j v))
+  step_runs HowMany z d j v s sized lt few small next at framed stands le =
+      increment_runs d v s few next at framed stands le
+  step_runs LeastMessage z d j v s sized lt few small next at framed stands le =
+      lower_runs z d j v s sized lt few small at framed stands le
+
+  -- the runs of the tests of a tally
+  abbrev pub TallyTests : Tally → ℕ → ℕ → (ℕ → List Insn) → (ℕ → ℕ) → MachineState → Type 0
+  TallyTests tally d n test holds s = (j : ℕ) (t : MachineState) → j < n → Same d s t
+      → Stands program t.frame.slot (test j)
+      → t.frame.slot + length (test j) + length (tally_step tally (number_place d) 0) ≤ last
+      → Gets t (t.frame.slot + length (test j) + landing false (holds j) (length (tally_step tally (number_place d) 0)))
+      (length (test j)) (Same (d + 1) t)
+
+  tallies_run : (tally : Tally) (z : Sizes) (d : ℕ) (test : ℕ → List Insn) (holds : ℕ → ℕ) (s : MachineState) (m : ℕ)
+      → IsSized z env → d < PLACES → m ≤ z.nodes → IsFramed s
+      → Stands program s.frame.slot (tally_codes (tally_step tally (number_place d)) test m)
+      → s.frame.slot + length (tally_codes (tally_step tally (number_place d)) test m) ≤ last
+      → At d s (tally_start tally) → TallyTests tally d z.nodes test holds s
+      → Gets s (s.frame.slot + length (tally_codes (tally_step tally (number_place d)) test m))
+      (length (tally_codes (tally_step tally (number_place d)) test m))
+      (InPlace d s (tally_below tally m holds (message_from z env)))
+  tallies_run tally z d test holds s zero sized small le framed stands fits start each = record {
+    new = s;
+    run = stays program env s;
+    slot = omega arith;
+    fact = record {
+      same = same_self d s;
+      there = subst (λ (y : ℕ). At d s y) (tally_none tally holds (message_from z env)) start;
+    };
+  }
+  tallies_run tally z d test holds s (suc m) sized small le framed stands fits start each =
+      let steps = tally_step tally (number_place d) in
+      let message = message_from z env in
+      let front = tally_codes steps test m in
+      let add = steps m in
+      let back = test m ++ add in
+      let len : length (front ++ back) ≡ length front + (length (test m) + length add) = omega
+      (arith, length-append front back, length-append (test m) add) in
+      let alike : length add ≡ length (steps 0) = steps_alike tally (number_place d) m in
+      let c = tallies_run tally z d test holds s m sized small (omega (arith, le)) framed
+      (stands_front program s.frame.slot front back stands) (omega (arith, len, fits)) start each in
+      let t = c.new in
+      let at_back = here_is t _ back c.slot (stands_back program s.frame.slot front back stands) in
+      let g = each m t (omega (arith, le)) c.fact.same (stands_front program t.frame.slot (test m) add at_back)
+      (omega (arith, len, alike, fits, c.slot)) in
+      let w = g.new in
+      let v = tally_below tally m holds message in
+      let total = tally_below tally (suc m) holds message in
+      let kept : At d w v = g.fact.places d v (omega arith) c.fact.there in
+      let same : Same d s w = same_then d s t w c.fact.same (same_less d t w g.fact) in
+      let run = chain program env s t w (length front) (length (test m)) (length front + length (test m)) c.run g.run
+      (omega arith) in
+      let few : z.nodes < 2 ^ 31 = nodes_few z sized in
+      elim (cases_Bool (truth (holds m))) [
+        | inl so ↦
+            let none : landing false (holds m) (length (steps 0)) ≡ 0 = rw so refl in
+            let slot : w.frame.slot ≡ t.frame.slot + length (test m) = omega (arith, g.slot, none) in
+            let there = here_is w _ add slot (stands_back program t.frame.slot (test m) add at_back) in
+            let one : tally_next tally message m v ≡ total = tally_more tally m holds message so in
+            let bits : tally_next tally message m v < 2 ^ 32 = subst (λ (y : ℕ). y < 2 ^ 32) (sym one)
+            (tally_small tally (suc m) holds message (omega (arith, le, few))) in
+            let x = step_runs tally z d m v w sized (omega (arith, le)) small
+            (tally_small tally m holds message (omega (arith, le, few))) bits kept (same.framed framed) there
+            (omega (arith, len, fits, slot, c.slot)) in
+            record {
+              new = x.new;
+              run = chain program env s w x.new _ (length add) (length (front ++ back)) run x.run (omega (arith, len));
+              slot = omega (arith, len, slot, c.slot, x.slot);
+              fact = record {
+                same = same_then d s w x.new same x.fact.same;
+                there = subst (λ (y : ℕ). At d x.new y) one x.fact.there;
+              };
+            }
+        | inr other ↦
+            let all : landing false (holds m) (length (steps 0)) ≡ length (steps 0) = rw other refl in
+            let slot : w.frame.slot ≡ t.frame.slot + length (test m) + length add = omega (arith, g.slot, all, alike) in
+            record {
+              new = w;
+              run = chain program env s w w _ 0 (length (front ++ back)) run (stays program env w) (omega (arith, len));
+              slot = omega (arith, len, slot, c.slot);
+              fact = record {
+                same = same;
+                there = subst (λ (y : ℕ). At d w y) (tally_stays tally m holds message other) kept;
+              };
+            }
+      ]
+
+  pub tallied_runs : (tally : Tally) (z : Sizes) (d : ℕ) (test : ℕ → List Insn) (holds : ℕ → ℕ) (s : MachineState)
+      → IsSized z env → d < PLACES → IsFramed s → Stands program s.frame.slot (tallied_code tally d z.nodes test)
+      → s.frame.slot + length (tallied_code tally d z.nodes test) ≤ last → TallyTests tally d z.nodes test holds s
+      → Gets s (s.frame.slot + length (tallied_code tally d z.nodes test)) (length (tallied_code tally d z.nodes test))
+      (InPlace d s (tally_below tally z.nodes holds (message_from z env)))
+  tallied_runs tally z d test holds s sized small framed stands fits each =
+      let codes = tally_codes (tally_step tally (number_place d)) test z.nodes in
+      let first = tally_start tally in
+      let bits : first < 2 ^ 32 = subst (λ (y : ℕ). y < 2 ^ 32) (sym (tally_none tally holds (message_from z env)))
+      (tally_small tally 0 holds (message_from z env) (omega arith)) in
+      let p = starts_at program env d first s (s.frame.slot + 1) small stands.0 refl (solid _ (omega (arith, fits)))
+      framed bits in
+      let s1 = p.new in
+      let same1 : Same d s s1 = same_placed d d first s s1 (omega arith) small p.fact in
+      let c = tallies_run tally z d test holds s1 z.nodes sized small (omega arith) (p.fact.framed framed)
+      (here_is s1 _ codes p.slot stands.1) (omega (arith, fits, p.slot)) p.fact.there
+      (λ j t lt same. each j t lt (same_then d s s1 t same1 same)) in
+      record {
+        new = c.new;
+        run = chain program env s s1 c.new 1 (length codes) (length (tallied_code tally d z.nodes test))
+            (once program env s s1 p.runs) c.run (omega arith);
+        slot = omega (arith, c.slot, p.slot);
+        fact = record { same = same_then d s s1 c.new same1 c.fact.same; there = c.fact.there };
+      }
+
+  pub tally_runs : (tally : Tally) (z : Sizes) (d : ℕ) (test : ℕ → List Insn) (holds : ℕ → ℕ) (s : MachineState)
+      → IsSized z env → d < PLACES → IsFramed s → Stands program s.frame.slot (tally_code tally d z.nodes test)
+      → s.frame.slot + length (tally_code tally d z.nodes test) ≤ last → TallyTests tally d z.nodes test holds s
+      → Gets s (s.frame.slot + length (tally_code tally d z.nodes test)) (length (tally_code tally d z.nodes test))
+      (Has d s (tally_below tally z.nodes holds (message_from z env)))
+  tally_runs tally z d test holds s sized small framed stands fits each =
+      let codes = tallied_code tally d z.nodes test in
+      let last_one = fetch_code R0 (number_place d) ∷ [] in
+      let len : length (codes ++ last_one) ≡ length codes + 1 = length-append codes last_one in
+      let c = tallied_runs tally z d test holds s sized small framed
+      (stands_front program s.frame.slot codes last_one stands) (omega (arith, len, fits)) each in
+      let w = c.new in
+      let v = tally_below tally z.nodes holds (message_from z env) in
+      let few : z.nodes < 2 ^ 31 = nodes_few z sized in
+      let there = here_is w _ last_one c.slot (stands_back program s.frame.slot codes last_one stands) in
+      let g = fetch_runs d d v w (tally_small tally z.nodes holds (message_from z env) (omega (arith, few))) c.fact.there
+      (c.fact.same.framed framed) there (omega (arith, len, fits, c.slot)) in
+      record {
+        new = g.new;
+        run = chain program env s w g.new (length codes) 1 (length (codes ++ last_one)) c.run g.run (omega (arith, len));
+        slot = omega (arith, len, c.slot, g.slot);
+        fact = record {
+          same = same_then d s w g.new c.fact.same g.fact.same;
+          r0 = g.fact.r0;
+          small = g.fact.small;
+        };
+      }
+
   -- ---- terms
 
   pub term_runs : (t : Term) (z : Sizes) (J : List ℕ) (d lets : ℕ) (purpose : Purpose) (u : NodeState)
@@ -1470,12 +1544,24 @@ module _ (program : List Insn) (env : Setting) (last : ℕ) (solid : (k : ℕ) �
       (omega (arith, l2))))
       (λ x to k. has_at d v s x to k))
   term_runs (Count' p t) z J d lets purpose u s sized nodes few le fits h stands room =
-      let test = λ (j : ℕ). term_code t z (J ++ j ∷ []) (d + 1) (count_test d) in
+      let test = λ (j : ℕ). term_code t z (J ++ j ∷ []) (d + 1) (tally_test HowMany d) in
       let holds = λ (j : ℕ). value t z env (J ++ j ∷ []) u in
-      by_value_runs purpose (count_code d z.nodes test) d (count_below z.nodes holds) s stands room
-      (λ st l. count_runs d z.nodes test holds s fits.0 (nodes_few z sized) h.framed st l
+      by_value_runs purpose (tally_code HowMany d z.nodes test) d
+      (tally_below HowMany z.nodes holds (message_from z env)) s stands room
+      (λ st l. tally_runs HowMany z d test holds s sized fits.0 h.framed st l
       (λ j w lt same st2 l2.
       let more : length J + 1 ≡ length (J ++ j ∷ []) = omega (arith, length-append J (j ∷ [])) in
-      term_runs t z (J ++ j ∷ []) (d + 1) lets (count_test d) u w sized (All-push (λ i. i < z.nodes) J j nodes lt) few
-      (omega (arith, le)) (subst (λ (n : ℕ). Fits t z n lets (d + 1)) more fits.1)
-      (still_holds env lets d u s w le h same) st2 l2))
+      term_runs t z (J ++ j ∷ []) (d + 1) lets (tally_test HowMany d) u w sized
+      (All-push (λ i. i < z.nodes) J j nodes lt) few (omega (arith, le))
+      (subst (λ (n : ℕ). Fits t z n lets (d + 1)) more fits.1) (still_holds env lets d u s w le h same) st2 l2))
+  term_runs (Least' p t) z J d lets purpose u s sized nodes few le fits h stands room =
+      let test = λ (j : ℕ). term_code t z (J ++ j ∷ []) (d + 1) (tally_test LeastMessage d) in
+      let holds = λ (j : ℕ). value t z env (J ++ j ∷ []) u in
+      by_value_runs purpose (tally_code LeastMessage d z.nodes test) d
+      (tally_below LeastMessage z.nodes holds (message_from z env)) s stands room
+      (λ st l. tally_runs LeastMessage z d test holds s sized fits.0 h.framed st l
+      (λ j w lt same st2 l2.
+      let more : length J + 1 ≡ length (J ++ j ∷ []) = omega (arith, length-append J (j ∷ [])) in
+      term_runs t z (J ++ j ∷ []) (d + 1) lets (tally_test LeastMessage d) u w sized
+      (All-push (λ i. i < z.nodes) J j nodes lt) few (omega (arith, le))
+      (subst (λ (n : ℕ). Fits t z n lets (d + 1)) more fits.1) (still_holds env lets d u s w le h same) st2 l2))

@@ -30,11 +30,13 @@ use Rattle.rule_nodes.specs.declared.numbers.TheConstants.{PLACES}
 use Rattle.rule_nodes.specs.declared.numbers.Place.{Place}
 use Rattle.rule_nodes.specs.declared.numbers.Place.TheVariants.{InRegister, OnStack}
 use Rattle.rule_nodes.specs.declared.numbers.Purpose.TheVariants.{Value, Jump}
-use Rattle.rule_syntax.specs.declared.syntax.Term.TheVariants.{Binary', Count'}
+use Rattle.rule_syntax.specs.declared.syntax.Term.TheVariants.{Binary', Count', Least'}
 use Rattle.rule_syntax.specs.declared.syntax.Target.{Target}
 use Rattle.rule_syntax.specs.declared.syntax.Target.TheVariants.{ToLocal, ToWord}
 use Rattle.rule_syntax.specs.declared.syntax.Assignment.{Assignment}
 use Rattle.rule_syntax.specs.declared.syntax.Assignment.TheVariants.{One, Also'}
+use Rattle.rule_nodes.specs.declared.numbers.Tally.{Tally}
+use Rattle.rule_nodes.specs.declared.numbers.Tally.TheVariants.{HowMany, LeastMessage}
 use Rattle.rule_nodes.specs.declared.numbers.Source.{Source}
 use Rattle.rule_nodes.specs.declared.numbers.Source.TheVariants.{Constant, FromLocal, FromWord, Computed}
 use Rattle.rule_syntax.specs.declared.syntax.Term.{Term}
@@ -42,7 +44,7 @@ use Rattle.rule_syntax.specs.declared.syntax.Statement.{Statement}
 use Rattle.rule_syntax.specs.declared.syntax.Statement.TheVariants.{Nothing, Then', Let', Assign, If', For', SendAll, SendTo}
 use Rattle.rule_nodes.specs.Operands.{is_constant, constant_number, is_local, is_operand, is_steady, depth_behind, term_source}
 use Rattle.rule_nodes.specs.Fits.{HasPlace, Fits, TargetFits, AssignmentFits, BlockFits}
-use Rattle.rule_nodes.specs.Code.{number_place, fetch_code, keep_code, copy, set_node, cond_of, jump_at, counted_code, count_test, term_code, stored_code, passed_code, send_to_constant_code, assign_code, place_code, word_code, set_code, given_code, alu_op_of, change_place, changing_insn, one_code, also_code, assignment_code, get_code, set_number, send_code, send_codes, send_all_code, send_to_code, each_code, is_nothing, block_code, tail_code, rule_code}
+use Rattle.rule_nodes.specs.Code.{number_place, fetch_code, keep_code, copy, set_node, cond_of, jump_at, tallied_code, tally_test, term_code, stored_code, passed_code, send_to_constant_code, assign_code, place_code, word_code, set_code, given_code, alu_op_of, change_place, changing_insn, one_code, also_code, assignment_code, get_code, set_number, send_code, send_codes, send_all_code, receiver_code, send_to_code, each_code, is_nothing, block_code, tail_code, rule_code}
 use Rattle.rule_nodes.proofs.Typing.{memory_place, word, written_at, state, known, plain, valued, proper, within, proper_known, some_word, into, Grows, grows_none, grows_one, placed_in, register_kind, short, Typing, typed_then, typed_as, typed_none, one_on, one_fork, number_typed, fetch_place, keep_place, fetch_typed, keep_typed, change_typed, AllSound, seen}
 use Rattle.rule_nodes.proofs.Whole.{all_begin, rule_length, ones_rule}
 use Rattle.rule_nodes.specs.Ends.{AreSizes}
@@ -50,7 +52,7 @@ use Rattle.rule_nodes.proofs.Places.{IsPlace, place_is, not_frame}
 use Rattle.rule_nodes.proofs.Sources.{is_found}
 use Rattle.rule_nodes.proofs.TermRuns.{behind_more, behind_few, found_same}
 use Rattle.rule_nodes.proofs.Blocks.{computed_place}
-use Rattle.rule_nodes.proofs.TypedTerms.{known_less, covers_less, left_imm, typed_seq, typed_at, if_typed, some_node, proper_node, node_in_r0, not_above_node, name_typed, node_typed, load_typed, register_typed, alter_typed, IsThere, source_there, counted_typed, term_typed}
+use Rattle.rule_nodes.proofs.TypedTerms.{known_less, covers_less, left_imm, typed_seq, typed_at, if_typed, some_node, proper_node, node_in_r0, not_above_node, name_typed, node_typed, load_typed, register_typed, alter_typed, IsThere, source_there, TestsTyped, tallied_typed, term_typed}
 
 module _ (program : List Insn) (shape : Extent) (last : ℕ) (solid : (k : ℕ) → k ≤ last → BeginsAt program k) where
   abbrev T : ℕ → List Insn → (Table → Type 0) → (Table → Type 0) → Type 0
@@ -340,35 +342,36 @@ module _ (program : List Insn) (shape : Extent) (last : ℕ) (solid : (k : ℕ) 
       (C S slot) S e
       (typed_seq program shape last solid slot p1 front back (C S slot) (C S p1) (C S (p1 + 1 + 1 + 1)) refl f ab)
 
-  send_to_typed : (d n slot : ℕ) → d < PLACES → n ≡ shape.nodes → 1 ≤ n → n ≤ 64 → slot + 4 ≤ last
-      → T slot (send_to_code d n) (C (valued (d + 1)) slot) (C (plain (d + 1)) (slot + 4))
-  send_to_typed d n slot small same some few le =
+  -- a found number to the node in r0
+  receiver_typed : (x : Source) (d lets n slot : ℕ) → is_found x ≡ true → IsThere x lets shape.memory → lets ≤ d
+      → d ≤ PLACES → n ≡ shape.nodes → 1 ≤ n → n ≤ 64 → slot + 4 ≤ last
+      → T slot (receiver_code x n) (C (valued d) slot) (C (plain d) (slot + 4))
+  receiver_typed x d lets n slot found there below most same some few le =
       let p1 = slot + 1 in
       let p2 = p1 + 1 in
       let end = slot + 4 in
       let N = some_node program shape last solid in
-      let A = known (d + 1) N Unset Unset in
-      let V = valued (d + 1) in
-      let S = plain (d + 1) in
+      let A = known d N Unset Unset in
+      let V = valued d in
+      let S = plain d in
+      let hand = get_code R2 x ∷ i.Call (pos 3) ∷ [] in
       let f = one_fork program shape last solid slot 3 (cond_of AtLeast) R0 (operand.Imm (pos n)) V A S
-      (λ x e. node_in_r0 program shape last solid (d + 1) (pos n) _ x
+      (λ y e. node_in_r0 program shape last solid d (pos n) _ y
       (λ pair g. not_above_node program shape last solid n pair same few g) e)
-      (λ x e. left_imm (d + 1) (pos n) _ x e)
-      (proper_known (d + 1) word Unset Unset some_word tt tt) (keeps_own _ _ _ refl) (omega (arith, le)) in
-      let a = name_typed program shape last solid (d + 1) p1 (omega (arith, same, few)) (omega (arith, le)) in
+      (λ y e. left_imm d (pos n) _ y e)
+      (proper_known d word Unset Unset some_word tt tt) (keeps_own _ _ _ refl) (omega (arith, le)) in
+      let a = name_typed program shape last solid d p1 (omega (arith, same, few)) (omega (arith, le)) in
       let e1 : p2 + 1 + 1 ≡ end = omega arith in
-      let b = typed_at program shape last solid p2 (p2 + 1 + 1) end (fetch_code R2 (number_place d) ∷ i.Call (pos 3) ∷ [])
-      (C (known (d + 1) Unset N Unset) p2) S e1 (hand_typed (FromLocal d) (d + 1) (d + 1) p2 refl (omega arith)
-      (omega arith) (omega (arith, small)) (omega (arith, same, some))
+      let b = typed_at program shape last solid p2 (p2 + 1 + 1) end hand
+      (C (known d Unset N Unset) p2) S e1 (hand_typed x d lets p2 found there below most (omega (arith, same, some))
       (omega (arith, le))) in
-      let ab = typed_seq program shape last solid p1 p2 (copy R1 R0 ∷ []) (fetch_code R2 (number_place d) ∷ i.Call
-      (pos 3) ∷ []) (C A p1) (C (known (d + 1) Unset N Unset) p2) (C S end) refl a b in
+      let ab = typed_seq program shape last solid p1 p2 (copy R1 R0 ∷ []) hand (C A p1)
+      (C (known d Unset N Unset) p2) (C S end) refl a b in
       let e2 : end ≡ slot + 1 + 3 = omega arith in
-      let all = typed_then program shape last solid slot p1 (jump_at AtLeast n 3 ∷ [])
-      (copy R1 R0 ∷ fetch_code R2 (number_place d) ∷ i.Call (pos 3) ∷ []) (C V slot)
+      let all = typed_then program shape last solid slot p1 (jump_at AtLeast n 3 ∷ []) (copy R1 R0 ∷ hand) (C V slot)
       (λ table. C A p1 table × C S (p1 + 3) table) (C A p1) (C S end) refl f ab
       (λ table o asks. (o, subst (λ (k : ℕ). C S k table) e2 asks)) in
-      typed_as program shape last solid slot (send_to_code d n) (λ table. C V slot table × C A p1 table)
+      typed_as program shape last solid slot (receiver_code x n) (λ table. C V slot table × C A p1 table)
       (C S end) (C V slot)
       (C S end) (λ table h. h.0) (λ table h. h) all
 
@@ -659,23 +662,44 @@ module _ (program : List Insn) (shape : Extent) (last : ℕ) (solid : (k : ℕ) 
       typed_at program shape last solid slot slot (slot + 0) [] (C (plain d) slot) (plain d) e1
       (typed_none program shape last solid slot (C (plain d) slot))
 
-  to_typed : (constant : Bool) (e k : Term) (z : Sizes) (J : List ℕ) (d slot : ℕ) → is_constant k ≡ constant
-      → z.nodes ≡ shape.nodes → 1 ≤ z.nodes → z.nodes ≤ 64 → z.memory ≡ shape.memory → d ≤ PLACES → HasPlace constant d
-      → Fits e z (length J) d d → Fits k z (length J) d (depth_behind constant d)
-      → slot + length (if constant then send_to_constant_code (term_source e z J) (constant_number k z J)
-      z.nodes (term_code e z J d Value) else term_code e z J d Value
-      ++ (keep_code (number_place d) ∷ (term_code k z J (d + 1) Value ++ send_to_code d z.nodes))) ≤ last
-      → BlockTyped d slot (if constant then send_to_constant_code (term_source e z J) (constant_number k z J)
-      z.nodes (term_code e z J d Value) else term_code e z J d Value
-      ++ (keep_code (number_place d) ∷ (term_code k z J (d + 1) Value ++ send_to_code d z.nodes)))
-  to_typed true e k z J d slot is same some few room small free fits k_fits le =
-      let j = constant_number k z J in
-      constant_typed (nat_lt j z.nodes) e z J d slot j refl same some few room small fits le
-  to_typed false e k z J d slot is same some few room small free fits k_fits le =
-      let code = term_code k z J (d + 1) Value in
-      let back = send_to_code d z.nodes in
+  found_to_typed : (x : Source) (k : Term) (z : Sizes) (J : List ℕ) (d slot : ℕ) → is_found x ≡ true
+      → IsThere x d shape.memory → z.nodes ≡ shape.nodes → 1 ≤ z.nodes → z.nodes ≤ 64 → z.memory ≡ shape.memory
+      → d ≤ PLACES → Fits k z (length J) d d
+      → slot + length (term_code k z J d Value ++ receiver_code x z.nodes) ≤ last
+      → BlockTyped d slot (term_code k z J d Value ++ receiver_code x z.nodes)
+  found_to_typed x k z J d slot found there same some few room small k_fits le =
+      let code = term_code k z J d Value in
+      let back = receiver_code x z.nodes in
       let len : length (code ++ back) ≡ length code + 4 = length-append code back in
-      stored_typed e z J d slot (code ++ back) same some few room free fits le
+      let p1 = slot + length code in
+      let eq : p1 + 4 ≡ slot + length (code ++ back) = omega (arith, len) in
+      typed_at program shape last solid slot (p1 + 4) (slot + length (code ++ back)) (code ++ back) (C (plain d) slot)
+      (plain d) eq
+      (typed_seq program shape last solid slot p1 code back (C (plain d) slot) (C (valued d) p1) (C (plain d) (p1 + 4))
+      refl
+      (term_typed program shape last solid k z J d d Value slot same some few room (omega arith) small k_fits
+      (omega (arith, len, le)))
+      (receiver_typed x d d z.nodes p1 found there (omega arith) small same some few (omega (arith, len, le))))
+
+  sent_to_typed : (x : Source) (e k : Term) (z : Sizes) (J : List ℕ) (d slot : ℕ) → IsThere x d shape.memory
+      → z.nodes ≡ shape.nodes → 1 ≤ z.nodes → z.nodes ≤ 64 → z.memory ≡ shape.memory → d ≤ PLACES
+      → (is_found x ≡ false → d < PLACES) → Fits e z (length J) d d → Fits k z (length J) d (depth_behind (is_found x) d)
+      → slot + length (send_to_code x d z.nodes (term_code e z J d Value)
+      (term_code k z J (depth_behind (is_found x) d) Value)) ≤ last
+      → BlockTyped d slot (send_to_code x d z.nodes (term_code e z J d Value)
+      (term_code k z J (depth_behind (is_found x) d) Value))
+  sent_to_typed (Constant c) e k z J d slot there same some few room small free fits k_fits le =
+      found_to_typed (Constant c) k z J d slot refl there same some few room small k_fits le
+  sent_to_typed (FromLocal j) e k z J d slot there same some few room small free fits k_fits le =
+      found_to_typed (FromLocal j) k z J d slot refl there same some few room small k_fits le
+  sent_to_typed (FromWord j) e k z J d slot there same some few room small free fits k_fits le =
+      found_to_typed (FromWord j) k z J d slot refl there same some few room small k_fits le
+  sent_to_typed Computed e k z J d slot there same some few room small free fits k_fits le =
+      let place = free refl in
+      let code = term_code k z J (d + 1) Value in
+      let back = receiver_code (FromLocal d) z.nodes in
+      let len : length (code ++ back) ≡ length code + 4 = length-append code back in
+      stored_typed e z J d slot (code ++ back) same some few room place fits le
       (λ to l.
       let p1 = to + length code in
       let eq : p1 + 4 ≡ to + length (code ++ back) = omega (arith, len) in
@@ -684,9 +708,56 @@ module _ (program : List Insn) (shape : Extent) (last : ℕ) (solid : (k : ℕ) 
       (typed_seq program shape last solid to p1 code back (C (plain (d + 1)) to) (C (valued (d + 1)) p1)
       (C (plain (d + 1)) (p1 + 4)) refl
       (term_typed program shape last solid k z J (d + 1) d Value to same some few room (omega arith)
-      (omega (arith, free))
+      (omega (arith, place))
       k_fits (omega (arith, len, l)))
-      (send_to_typed d z.nodes p1 free same some few (omega (arith, len, l)))))
+      (receiver_typed (FromLocal d) (d + 1) (d + 1) z.nodes p1 refl (omega arith) (omega arith) (omega (arith, place))
+      same some few (omega (arith, len, l)))))
+
+  to_typed : (constant : Bool) (e k : Term) (z : Sizes) (J : List ℕ) (d slot : ℕ) → is_constant k ≡ constant
+      → z.nodes ≡ shape.nodes → 1 ≤ z.nodes → z.nodes ≤ 64 → z.memory ≡ shape.memory → d ≤ PLACES
+      → HasPlace (constant || is_operand e) d → Fits e z (length J) d d
+      → Fits k z (length J) d (depth_behind (constant || is_operand e) d)
+      → slot + length (if constant then send_to_constant_code (term_source e z J) (constant_number k z J)
+      z.nodes (term_code e z J d Value) else send_to_code (term_source e z J) d z.nodes (term_code e z J d Value)
+      (term_code k z J (depth_behind (is_operand e) d) Value)) ≤ last
+      → BlockTyped d slot (if constant then send_to_constant_code (term_source e z J) (constant_number k z J)
+      z.nodes (term_code e z J d Value) else send_to_code (term_source e z J) d z.nodes (term_code e z J d Value)
+      (term_code k z J (depth_behind (is_operand e) d) Value))
+  to_typed true e k z J d slot is same some few room small free fits k_fits le =
+      let j = constant_number k z J in
+      constant_typed (nat_lt j z.nodes) e z J d slot j refl same some few room small fits le
+  to_typed false e k z J d slot is same some few room small free fits k_fits le =
+      let x = term_source e z J in
+      let there = subst (λ (m : ℕ). IsThere x d m) room (source_there e z J (length J) d d fits) in
+      let code = λ (simple : Bool). send_to_code x d z.nodes (term_code e z J d Value)
+      (term_code k z J (depth_behind simple d) Value) in
+      let P : Bool → Type 0 = λ simple. Fits k z (length J) d (depth_behind simple d)
+      → slot + length (code simple) ≤ last → BlockTyped d slot (code simple) in
+      subst P (found_same e z J)
+      (λ f l. sent_to_typed x e k z J d slot there same some few room small
+      (λ q. computed_place (is_operand e) d (sym (found_same e z J) ∙ q) free) fits f l) k_fits le
+
+  -- a tally that stays in the next place, and what follows
+  tally_let_typed : (tally : Tally) (d slot n : ℕ) (test : ℕ → List Insn) (back : List Insn) → n ≡ shape.nodes
+      → n ≤ 64 → d < PLACES → slot + length (tallied_code tally d n test ++ back) ≤ last
+      → TestsTyped program shape last solid tally d test
+      → ((to : ℕ) → to + length back ≤ last → BlockTyped (d + 1) to back)
+      → BlockTyped d slot (tallied_code tally d n test ++ back)
+  tally_let_typed tally d slot n test back same few small le each next =
+      let front = tallied_code tally d n test in
+      let len : length (front ++ back) ≡ length front + length back = length-append front back in
+      let p1 = slot + length front in
+      let end = slot + length (front ++ back) in
+      let e : p1 + length back ≡ end = omega (arith, len) in
+      let c = tallied_typed program shape last solid tally d slot n test small (omega (arith, same))
+      (omega (arith, same, few)) (omega (arith, len, le)) each in
+      let r = typed_at program shape last solid p1 (p1 + length back) end back (C (plain (d + 1)) p1)
+      (plain (d + 1)) e (next p1 (omega (arith, len, le))) in
+      let r1 = typed_as program shape last solid p1 back (C (plain (d + 1)) p1) (C (plain (d + 1)) end)
+      (C (plain (d + 1)) p1) (C (plain d) end) (λ table h. h)
+      (λ table h. covers_less table (plain (d + 1)) (plain d) end (known_less d Unset Unset Unset) h) r in
+      typed_seq program shape last solid slot p1 front back (C (plain d) slot) (C (plain (d + 1)) p1) (C (plain d) end)
+      refl c r1
 
   pub block_typed : (b : Statement) (z : Sizes) (J : List ℕ) (d slot : ℕ) → z.nodes ≡ shape.nodes → 1 ≤ z.nodes
       → z.nodes ≤ 64 → z.memory ≡ shape.memory → d ≤ PLACES → BlockFits b z (length J) d
@@ -708,27 +779,21 @@ module _ (program : List Insn) (shape : Extent) (last : ℕ) (solid : (k : ℕ) 
       (block_typed a z J d slot same some few room small fits.0 (omega (arith, len, le)))
       (block_typed b z J d p1 same some few room small fits.1 (omega (arith, len, le))))
   block_typed (Let' (Count' q t) p rest) z J d slot same some few room small fits le =
-      let test = λ (j : ℕ). term_code t z (J ++ j ∷ []) (d + 1) (count_test d) in
-      let front = counted_code d z.nodes test in
-      let back = block_code rest z J (d + 1) in
-      let len : length (front ++ back) ≡ length front + length back = length-append front back in
-      let p1 = slot + length front in
-      let end = slot + length (front ++ back) in
-      let e : p1 + length back ≡ end = omega (arith, len) in
-      let c = counted_typed program shape last solid d slot z.nodes test fits.0 (omega (arith, len, le))
+      let test = λ (j : ℕ). term_code t z (J ++ j ∷ []) (d + 1) (tally_test HowMany d) in
+      tally_let_typed HowMany d slot z.nodes test (block_code rest z J (d + 1)) same few fits.0 le
       (λ j to l.
       let more : length J + 1 ≡ length (J ++ j ∷ []) = omega (arith, length-append J (j ∷ [])) in
-      term_typed program shape last solid t z (J ++ j ∷ []) (d + 1) d (count_test d) to same some few room (omega arith)
-      (omega (arith, fits.0)) (subst (λ (n : ℕ). Fits t z n d (d + 1)) more fits.1.1) l) in
-      let r = block_typed rest z J (d + 1) p1 same some few room (omega (arith, fits.0)) fits.2
-      (omega (arith, len, le)) in
-      let r1 = typed_at program shape last solid p1 (p1 + length back) end back (C (plain (d + 1)) p1)
-      (plain (d + 1)) e r in
-      let r2 = typed_as program shape last solid p1 back (C (plain (d + 1)) p1) (C (plain (d + 1)) end)
-      (C (plain (d + 1)) p1) (C (plain d) end) (λ table h. h)
-      (λ table h. covers_less table (plain (d + 1)) (plain d) end (known_less d Unset Unset Unset) h) r1 in
-      typed_seq program shape last solid slot p1 front back (C (plain d) slot) (C (plain (d + 1)) p1) (C (plain d) end)
-      refl c r2
+      term_typed program shape last solid t z (J ++ j ∷ []) (d + 1) d (tally_test HowMany d) to same some few room
+      (omega arith) (omega (arith, fits.0)) (subst (λ (n : ℕ). Fits t z n d (d + 1)) more fits.1.1) l)
+      (λ to l. block_typed rest z J (d + 1) to same some few room (omega (arith, fits.0)) fits.2 l)
+  block_typed (Let' (Least' q t) p rest) z J d slot same some few room small fits le =
+      let test = λ (j : ℕ). term_code t z (J ++ j ∷ []) (d + 1) (tally_test LeastMessage d) in
+      tally_let_typed LeastMessage d slot z.nodes test (block_code rest z J (d + 1)) same few fits.0 le
+      (λ j to l.
+      let more : length J + 1 ≡ length (J ++ j ∷ []) = omega (arith, length-append J (j ∷ [])) in
+      term_typed program shape last solid t z (J ++ j ∷ []) (d + 1) d (tally_test LeastMessage d) to same some few room
+      (omega arith) (omega (arith, fits.0)) (subst (λ (n : ℕ). Fits t z n d (d + 1)) more fits.1.1) l)
+      (λ to l. block_typed rest z J (d + 1) to same some few room (omega (arith, fits.0)) fits.2 l)
   block_typed (Let' e p rest) z J d slot same some few room small fits le =
       let memory = λ (x : Source) (there : IsThere x d z.memory). subst (λ (m : ℕ). IsThere x d m) room there in
       placed_typed (term_source e z J) e z J d slot (block_code rest z J (d + 1))

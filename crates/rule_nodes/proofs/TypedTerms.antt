@@ -45,18 +45,21 @@ use Rattle.rule_nodes.specs.declared.numbers.Place.{Place}
 use Rattle.rule_nodes.specs.declared.numbers.Place.TheVariants.{InRegister, OnStack}
 use Rattle.rule_nodes.specs.declared.numbers.Purpose.{Purpose}
 use Rattle.rule_nodes.specs.declared.numbers.Purpose.TheVariants.{Value, Jump}
+use Rattle.rule_nodes.specs.declared.numbers.Tally.{Tally}
+use Rattle.rule_nodes.specs.declared.numbers.Tally.TheVariants.{HowMany, LeastMessage}
 use Rattle.rule_nodes.specs.declared.numbers.Source.{Source}
 use Rattle.rule_nodes.specs.declared.numbers.Source.TheVariants.{Constant, FromLocal, FromWord, Computed}
 use Rattle.rule_syntax.specs.declared.syntax.Term.{Term}
-use Rattle.rule_syntax.specs.declared.syntax.Term.TheVariants.{Number as Numeral, Nodes, Faults, Modulus, Me, Coin, LoopNode, Local, Word, Message', Binary', Logical', Not', Choice', Count'}
+use Rattle.rule_syntax.specs.declared.syntax.Term.TheVariants.{Number as Numeral, Nodes, Faults, Modulus, Me, Coin, LoopNode, Local, Word, Message', Binary', Logical', Not', Choice', Count', Least'}
 use Rattle.rule_nodes.specs.Meaning.{apply_operator}
 use Rattle.rule_nodes.specs.Operands.{is_constant, is_operand, constant_number, depth_behind, fetched_source, term_source}
 use Rattle.rule_nodes.specs.Fits.{Fits}
-use Rattle.rule_nodes.specs.Code.{number_place, fetch_code, keep_code, clear_code, increment_code, place_operand, load_place, set_number, copy, alu_op_of, cond_of, jump_on, jump_by, jump_at, beyond_purpose, truth_code, by_value, by_test, two_code, get_code, operand_code, load_code, jump_register, by_operator, left_code, right_code, beside_code, binary_code, message_by, mirror, set_node, choice_code, if_code, decides, both_far, both_code, message_code, count_codes, counted_code, count_code, count_test, term_code}
+use Rattle.rule_nodes.specs.Code.{number_place, fetch_code, keep_code, start_code, increment_code, place_operand, load_place, set_number, copy, alu_op_of, cond_of, jump_on, jump_by, jump_at, beyond_purpose, truth_code, by_value, by_test, two_code, get_code, operand_code, load_code, jump_register, by_operator, left_code, right_code, beside_code, binary_code, message_by, mirror, set_node, choice_code, if_code, decides, both_far, both_code, message_code, lower_code, tally_start, tally_step, tally_codes, tallied_code, tally_code, tally_test, term_code}
 use Rattle.rule_nodes.proofs.Places.{IsPlace, place_is, not_frame}
 use Rattle.rule_nodes.proofs.Sources.{is_found}
+use Rattle.rule_nodes.proofs.TallyLaws.{steps_alike}
 use Rattle.rule_nodes.proofs.TermRuns.{found_same, behind_more, free_beside, same_depth}
-use Rattle.rule_nodes.proofs.Typing.{memory_place, word, held, written_at, known, plain, valued, within, proper_known, some_word, into, Grows, grows_none, written_less, placed_in, register_kind, short, seen, Typing, typed_then, typed_as, typed_none, one_on, one_jump, one_fork, number_typed, fetch_place, fetch_typed, keep_typed, change_typed, begin_typed, second_typed}
+use Rattle.rule_nodes.proofs.Typing.{memory_place, word, held, written_at, known, plain, valued, within, proper_known, some_word, into, Grows, grows_none, written_less, placed_in, placed_beside, register_kind, short, seen, Typing, typed_then, typed_as, typed_none, one_on, one_jump, one_fork, number_typed, fetch_place, fetch_typed, keep_typed, change_typed, begin_typed, second_typed}
 
 held_less : (k d : ℕ) → IsKindIn (held k (d + 1)) (held k d)
 held_less k d = elim (cases_lt k d) [
@@ -80,12 +83,6 @@ pub left_imm : (d : ℕ) (v : _) (found : Option (Span × Span)) (C : AbstractSt
     → refined_by (valued d) R0 (operand.Imm v) found ≡ Some C → IsContainedIn C (plain d)
 left_imm d v None C e = absurd (none-some C e)
 left_imm d v (Some pair) C e = subst (λ (x : AbstractState). IsContainedIn x (plain d)) (same_Some _ C e)
-    (into _ d Unset Unset Unset tt tt tt refl)
-
-left_reg : (d : ℕ) (found : Option (Span × Span)) (C : AbstractState)
-    → refined_by (known d word word Unset) R0 (operand.Reg R1) found ≡ Some C → IsContainedIn C (plain d)
-left_reg d None C e = absurd (none-some C e)
-left_reg d (Some pair) C e = subst (λ (x : AbstractState). IsContainedIn x (plain d)) (same_Some _ C e)
     (into _ d Unset Unset Unset tt tt tt refl)
 
 -- a source is in scope, or in the memory
@@ -189,33 +186,46 @@ word_result op k s e ordered inside same = (
       word_inside inside),
 )
 
--- what a comparison of two numbers of 32 bits leaves of the second
+-- what a comparison of two numbers of 32 bits leaves of each
 branch_inside : (r : Comparison) (taken : Bool) (pair : Span × Span)
-    → branch_of (cond_of r) W32 (full_of 32) (full_of 32) taken ≡ Some pair → IsInside pair.1 (full_of 32)
-branch_inside Equal true pair e = subst (λ (p : Span × Span). IsInside p.1 (full_of 32)) (same_Some _ pair e)
-    (record { low = omega arith; high = omega arith })
-branch_inside Equal false pair e = subst (λ (p : Span × Span). IsInside p.1 (full_of 32)) (same_Some _ pair e)
-    (record { low = omega arith; high = omega arith })
-branch_inside NotEqual true pair e = subst (λ (p : Span × Span). IsInside p.1 (full_of 32)) (same_Some _ pair e)
-    (record { low = omega arith; high = omega arith })
-branch_inside NotEqual false pair e = subst (λ (p : Span × Span). IsInside p.1 (full_of 32)) (same_Some _ pair e)
-    (record { low = omega arith; high = omega arith })
-branch_inside Less true pair e = subst (λ (p : Span × Span). IsInside p.1 (full_of 32)) (same_Some _ pair e)
-    (record { low = omega arith; high = omega arith })
-branch_inside Less false pair e = subst (λ (p : Span × Span). IsInside p.1 (full_of 32)) (same_Some _ pair e)
-    (record { low = omega arith; high = omega arith })
-branch_inside AtMost true pair e = subst (λ (p : Span × Span). IsInside p.1 (full_of 32)) (same_Some _ pair e)
-    (record { low = omega arith; high = omega arith })
-branch_inside AtMost false pair e = subst (λ (p : Span × Span). IsInside p.1 (full_of 32)) (same_Some _ pair e)
-    (record { low = omega arith; high = omega arith })
-branch_inside Greater true pair e = subst (λ (p : Span × Span). IsInside p.1 (full_of 32)) (same_Some _ pair e)
-    (record { low = omega arith; high = omega arith })
-branch_inside Greater false pair e = subst (λ (p : Span × Span). IsInside p.1 (full_of 32)) (same_Some _ pair e)
-    (record { low = omega arith; high = omega arith })
-branch_inside AtLeast true pair e = subst (λ (p : Span × Span). IsInside p.1 (full_of 32)) (same_Some _ pair e)
-    (record { low = omega arith; high = omega arith })
-branch_inside AtLeast false pair e = subst (λ (p : Span × Span). IsInside p.1 (full_of 32)) (same_Some _ pair e)
-    (record { low = omega arith; high = omega arith })
+    → branch_of (cond_of r) W32 (full_of 32) (full_of 32) taken ≡ Some pair
+    → IsInside pair.0 (full_of 32) × IsInside pair.1 (full_of 32)
+branch_inside Equal true pair e = subst (λ (p : Span × Span). IsInside p.0 (full_of 32) × IsInside p.1 (full_of 32))
+    (same_Some _ pair e)
+    (record { low = omega arith; high = omega arith }, record { low = omega arith; high = omega arith })
+branch_inside Equal false pair e = subst (λ (p : Span × Span). IsInside p.0 (full_of 32) × IsInside p.1 (full_of 32))
+    (same_Some _ pair e)
+    (record { low = omega arith; high = omega arith }, record { low = omega arith; high = omega arith })
+branch_inside NotEqual true pair e = subst (λ (p : Span × Span). IsInside p.0 (full_of 32) × IsInside p.1 (full_of 32))
+    (same_Some _ pair e)
+    (record { low = omega arith; high = omega arith }, record { low = omega arith; high = omega arith })
+branch_inside NotEqual false pair e = subst (λ (p : Span × Span). IsInside p.0 (full_of 32) × IsInside p.1 (full_of 32))
+    (same_Some _ pair e)
+    (record { low = omega arith; high = omega arith }, record { low = omega arith; high = omega arith })
+branch_inside Less true pair e = subst (λ (p : Span × Span). IsInside p.0 (full_of 32) × IsInside p.1 (full_of 32))
+    (same_Some _ pair e)
+    (record { low = omega arith; high = omega arith }, record { low = omega arith; high = omega arith })
+branch_inside Less false pair e = subst (λ (p : Span × Span). IsInside p.0 (full_of 32) × IsInside p.1 (full_of 32))
+    (same_Some _ pair e)
+    (record { low = omega arith; high = omega arith }, record { low = omega arith; high = omega arith })
+branch_inside AtMost true pair e = subst (λ (p : Span × Span). IsInside p.0 (full_of 32) × IsInside p.1 (full_of 32))
+    (same_Some _ pair e)
+    (record { low = omega arith; high = omega arith }, record { low = omega arith; high = omega arith })
+branch_inside AtMost false pair e = subst (λ (p : Span × Span). IsInside p.0 (full_of 32) × IsInside p.1 (full_of 32))
+    (same_Some _ pair e)
+    (record { low = omega arith; high = omega arith }, record { low = omega arith; high = omega arith })
+branch_inside Greater true pair e = subst (λ (p : Span × Span). IsInside p.0 (full_of 32) × IsInside p.1 (full_of 32))
+    (same_Some _ pair e)
+    (record { low = omega arith; high = omega arith }, record { low = omega arith; high = omega arith })
+branch_inside Greater false pair e = subst (λ (p : Span × Span). IsInside p.0 (full_of 32) × IsInside p.1 (full_of 32))
+    (same_Some _ pair e)
+    (record { low = omega arith; high = omega arith }, record { low = omega arith; high = omega arith })
+branch_inside AtLeast true pair e = subst (λ (p : Span × Span). IsInside p.0 (full_of 32) × IsInside p.1 (full_of 32))
+    (same_Some _ pair e)
+    (record { low = omega arith; high = omega arith }, record { low = omega arith; high = omega arith })
+branch_inside AtLeast false pair e = subst (λ (p : Span × Span). IsInside p.0 (full_of 32) × IsInside p.1 (full_of 32))
+    (same_Some _ pair e)
+    (record { low = omega arith; high = omega arith }, record { low = omega arith; high = omega arith })
 
 -- and of the first, beside one number
 inside_further : (a b : Span) → IsInside a b → IsInside b (full_of 32) → IsInside a (full_of 32)
@@ -312,11 +322,27 @@ left_place r taken register k d n v K C is lt small e q =
         (placed_in register k d d (plain d) (Number pair.0) is (grows_none k d lt) refl
         (pair.0, refl, branch_first r taken n pair small f))
 
+-- a number in r0 may be forgotten
+pub valued_less : (d : ℕ) → IsContainedIn (valued d) (plain d)
+valued_less d = into (valued d) d Unset Unset Unset tt tt tt refl
+
+-- what a comparison of r0 and r1 leaves
+left_reg : (r : Comparison) (taken : Bool) (d : ℕ) (C : AbstractState)
+    → refined_by (known d word word Unset) R0 (operand.Reg R1)
+    (branch_of (cond_of r) W32 (full_of 32) (full_of 32) taken) ≡ Some C → IsContainedIn C (valued d)
+left_reg r taken d C e = by (branch_of (cond_of r) W32 (full_of 32) (full_of 32) taken) refl e
+  where
+    by : (found : Option (Span × Span)) → branch_of (cond_of r) W32 (full_of 32) (full_of 32) taken ≡ found
+        → refined_by (known d word word Unset) R0 (operand.Reg R1) found ≡ Some C → IsContainedIn C (valued d)
+    by None f h = absurd (none-some C h)
+    by (Some pair) f h = subst (λ (x : AbstractState). IsContainedIn x (valued d)) (same_Some _ C h)
+        (into _ d word Unset Unset (pair.0, refl, (branch_inside r taken pair f).0) tt tt refl)
+
 -- what a comparison of r0 and the register of a place leaves
 left_register : (r : Comparison) (taken : Bool) (register : Reg) (k d : ℕ) (K : AbstractValue) (C : AbstractState)
     → IsPlace (InRegister register) k → k < d → K ≡ word
     → branch_outcome (valued d) (cond_of r) W32 R0 (operand.Reg register) taken word K ≡ Some C
-    → IsContainedIn C (plain d)
+    → IsContainedIn C (valued d)
 left_register r taken register k d K C is lt e q =
     let h = subst (λ (x : AbstractValue). branch_outcome (valued d) (cond_of r) W32 R0 (operand.Reg register) taken word x
     ≡ Some C) e q in
@@ -326,15 +352,16 @@ left_register r taken register k d K C is lt e q =
     apart = ne_eqb (register_number register) 0 (λ q. omega (arith, q, is.0))
 
     by : (found : Option (Span × Span)) → branch_of (cond_of r) W32 (full_of 32) (full_of 32) taken ≡ found
-        → refined_by (valued d) R0 (operand.Reg register) found ≡ Some C → IsContainedIn C (plain d)
+        → refined_by (valued d) R0 (operand.Reg register) found ≡ Some C → IsContainedIn C (valued d)
     by None f h = absurd (none-some C h)
     by (Some pair) f h =
         let A = with_kind (valued d) R0 (Number pair.0) in
         let B = with_kind A register (Number pair.1) in
         let both : refined_by (valued d) R0 (operand.Reg register) (Some pair) ≡ Some B = rw apart refl in
-        subst (λ (x : AbstractState). IsContainedIn x (plain d)) (same_Some B C (sym both ∙ h))
-        (placed_in register k d d A (Number pair.1) is (grows_none k d lt) refl
-        (pair.1, refl, branch_inside r taken pair f))
+        let inside = branch_inside r taken pair f in
+        subst (λ (x : AbstractState). IsContainedIn x (valued d)) (same_Some B C (sym both ∙ h))
+        (placed_beside register k d d A (Number pair.1) word is (grows_none k d lt) refl
+        (pair.1, refl, inside.1) (pair.0, refl, inside.0))
 
 module _ (program : List Insn) (shape : Extent) (last : ℕ) (solid : (k : ℕ) → k ≤ last → BeginsAt program k) where
   abbrev T : ℕ → List Insn → (Table → Type 0) → (Table → Type 0) → Type 0
@@ -630,11 +657,11 @@ module _ (program : List Insn) (shape : Extent) (last : ℕ) (solid : (k : ℕ) 
       (into _ d word Unset Unset (word_result Mod _ q.range q.kind q.ordered q.inside refl) tt tt refl) is
       (alu_keeps Remainder src d k1 q) le
 
-  -- r0 beside a register
+  -- r0 beside a register: it stays a number of 32 bits
   register_fork : (r : Comparison) (register : Reg) (k d slot far : ℕ) → IsPlace (InRegister register) k → k < d
       → slot + 1 + far ≤ last
       → T slot (jump_by r (operand.Reg register) far ∷ []) (C (valued d) slot)
-      (λ table. C (plain d) (slot + 1) table × C (plain d) (slot + 1 + far) table)
+      (λ table. C (valued d) (slot + 1) table × C (valued d) (slot + 1 + far) table)
   register_fork r register k d slot far is lt le =
       let e : kind_of (valued d) register ≡ word = register_kind register k d word Unset Unset is lt in
       let own : KeepsOwn shape (jump_by r (operand.Reg register) far) (valued d) = record {
@@ -649,23 +676,36 @@ module _ (program : List Insn) (shape : Extent) (last : ℕ) (solid : (k : ℕ) 
         exit = refl;
         base = refl;
       } in
-      one_fork program shape last solid slot far (cond_of r) R0 (operand.Reg register) (valued d) (plain d) (plain d)
+      one_fork program shape last solid slot far (cond_of r) R0 (operand.Reg register) (valued d) (valued d) (valued d)
       (λ x q. left_register r false register k d (kind_of (valued d) register) x is lt e q)
       (λ x q. left_register r true register k d (kind_of (valued d) register) x is lt e q)
       (proper_known d word Unset Unset some_word tt tt) own le
 
   reg_fork : (r : Comparison) (d slot far : ℕ) → slot + 1 + far ≤ last
       → T slot (jump_by r (operand.Reg R1) far ∷ []) (C (known d word word Unset) slot)
-      (λ table. C (plain d) (slot + 1) table × C (plain d) (slot + 1 + far) table)
+      (λ table. C (valued d) (slot + 1) table × C (valued d) (slot + 1 + far) table)
   reg_fork r d slot far le = one_fork program shape last solid slot far (cond_of r) R0 (operand.Reg R1)
-      (known d word word Unset) (plain d) (plain d) (λ x e. left_reg d _ x e) (λ x e. left_reg d _ x e)
+      (known d word word Unset) (valued d) (valued d) (λ x e. left_reg r false d x e) (λ x e. left_reg r true d x e)
       (proper_known d word word Unset some_word some_word tt) (keeps_own _ _ _ refl) le
 
   place_fork : (r : Comparison) (p : Place) (k d slot far : ℕ) → IsPlace p k → k < d → slot + 1 + far ≤ last
       → T slot (jump_by r (place_operand p) far ∷ []) (C (known d word (place_r1 p) Unset) slot)
-      (λ table. C (plain d) (slot + 1) table × C (plain d) (slot + 1 + far) table)
+      (λ table. C (valued d) (slot + 1) table × C (valued d) (slot + 1 + far) table)
   place_fork r (InRegister register) k d slot far is lt le = register_fork r register k d slot far is lt le
   place_fork r (OnStack off) k d slot far is lt le = reg_fork r d slot far le
+
+  -- where it is forgotten
+  fork_less : (d slot far : ℕ) (code : List Insn) (O : Table → Type 0)
+      → T slot code O (λ table. C (valued d) (slot + 1) table × C (valued d) (slot + 1 + far) table)
+      → T slot code O (λ table. C (plain d) (slot + 1) table × C (plain d) (slot + 1 + far) table)
+  fork_less d slot far code O t =
+      typed_as program shape last solid slot code O
+      (λ table. C (valued d) (slot + 1) table × C (valued d) (slot + 1 + far) table) O
+      (λ table. C (plain d) (slot + 1) table × C (plain d) (slot + 1 + far) table) (λ table h. h)
+      (λ table h. (
+        covers_less table (valued d) (plain d) (slot + 1) (valued_less d) h.0,
+        covers_less table (valued d) (plain d) (slot + 1 + far) (valued_less d) h.1,
+      )) t
 
   compare_typed : (r : Comparison) (y : Source) (d lets slot far : ℕ) → IsThere y lets shape.memory → lets ≤ d → d ≤ PLACES
       → slot + 1 + far ≤ last
@@ -677,9 +717,15 @@ module _ (program : List Insn) (shape : Extent) (last : ℕ) (solid : (k : ℕ) 
       (λ x e. left_imm d (cast_signed w32 c) _ x e) (λ x e. left_imm d (cast_signed w32 c) _ x e)
       (proper_known d word Unset Unset some_word tt tt) (keeps_own _ _ _ refl) le
   compare_typed r (FromLocal k) d lets slot far there below few le =
-      place_fork r (number_place k) k d slot far (place_is k (omega (arith, there, below, few))) (omega (arith, there, below)) le
-  compare_typed r (FromWord k) d lets slot far there below few le = reg_fork r d slot far le
-  compare_typed r Computed d lets slot far there below few le = reg_fork r d slot far le
+      fork_less d slot far (jump_by r (operand_code (FromLocal k)) far ∷ []) (C (paired (FromLocal k) d) slot)
+      (place_fork r (number_place k) k d slot far (place_is k (omega (arith, there, below, few)))
+      (omega (arith, there, below)) le)
+  compare_typed r (FromWord k) d lets slot far there below few le =
+      fork_less d slot far (jump_by r (operand.Reg R1) far ∷ []) (C (known d word word Unset) slot)
+      (reg_fork r d slot far le)
+  compare_typed r Computed d lets slot far there below few le =
+      fork_less d slot far (jump_by r (operand.Reg R1) far ∷ []) (C (known d word word Unset) slot)
+      (reg_fork r d slot far le)
 
   operator_typed : (o : Operator) (y : Source) (purpose : Purpose) (d lets slot : ℕ) (code : List Insn)
       → IsThere y lets shape.memory → lets ≤ d → d ≤ PLACES
@@ -937,7 +983,7 @@ module _ (program : List Insn) (shape : Extent) (last : ℕ) (solid : (k : ℕ) 
       (λ table. C (plain d) end table × C (plain d) (end + far) table) (C (plain d) slot)
       (λ table. C (plain d) end table × C (plain d) (end + far) table) (λ table h. h.0) (λ table h. h) all
 
-  -- ---- counts
+  -- ---- changes of places
 
   -- a number of 32 bits into a register, after which e places are in use; all other rules are kept by itself
   pub register_typed : (register : Reg) (k d e slot : ℕ) (insn : Insn) (K : AbstractValue)
@@ -1089,72 +1135,6 @@ module _ (program : List Insn) (shape : Extent) (last : ℕ) (solid : (k : ℕ) 
       typed_seq slot p1 fetch (i.Alu Add W32 R0 (operand.Imm (pos 1)) ∷ keep_code (OnStack off) ∷ []) (C S slot)
       (C V p1) (C S (slot + 3)) refl f ag
 
-  counts_typed : (d slot n : ℕ) (test : ℕ → List Insn) → d < PLACES → slot + length (count_codes d test n) ≤ last
-      → ((j to : ℕ) → to + length (test j) + length (increment_code (number_place d)) ≤ last
-      → TermTyped (count_test d) (d + 1) to (test j))
-      → T slot (count_codes d test n) (C (plain (d + 1)) slot)
-      (C (plain (d + 1)) (slot + length (count_codes d test n)))
-  counts_typed d slot zero test small le each =
-      let e : slot ≡ slot + 0 = omega arith in
-      typed_at slot slot (slot + 0) [] (C (plain (d + 1)) slot) (plain (d + 1)) e
-      (typed_none program shape last solid slot (C (plain (d + 1)) slot))
-  counts_typed d slot (suc n) test small le each =
-      let front = count_codes d test n in
-      let add = increment_code (number_place d) in
-      let back = test n ++ add in
-      let len : length (front ++ back) ≡ length front + (length (test n) + length add) = omega
-      (arith, length-append front back, length-append (test n) add) in
-      let p1 = slot + length front in
-      let p2 = p1 + length (test n) in
-      let p3 = p2 + length add in
-      let S = plain (d + 1) in
-      let f = counts_typed d slot n test small (omega (arith, len, le)) each in
-      let t = each n p1 (omega (arith, len, le)) in
-      let a = increment_typed (number_place d) d (d + 1) p2 refl (omega arith) (omega (arith, small)) (omega (arith, len, le)) in
-      let ta = typed_then program shape last solid p1 p2 (test n) add (C S p1) (λ table. C S p2 table × C S p3 table)
-      (C S p2) (C S p3) refl t a (λ table o asks. (o, asks)) in
-      let ta1 = typed_as program shape last solid p1 back (λ table. C S p1 table × C S p2 table) (C S p3) (C S p1)
-      (C S p3) (λ table h. h.0) (λ table h. h) ta in
-      let e : p3 ≡ slot + length (front ++ back) = omega (arith, len) in
-      typed_at slot p3 (slot + length (front ++ back)) (front ++ back) (C S slot) S e
-      (typed_seq slot p1 front back (C S slot) (C S p1) (C S p3) refl f ta1)
-
-  -- a count that stays in the next place
-  pub counted_typed : (d slot n : ℕ) (test : ℕ → List Insn) → d < PLACES → slot + length (counted_code d n test) ≤ last
-      → ((j to : ℕ) → to + length (test j) + length (increment_code (number_place d)) ≤ last
-      → TermTyped (count_test d) (d + 1) to (test j))
-      → T slot (counted_code d n test) (C (plain d) slot) (C (plain (d + 1)) (slot + length (counted_code d n test)))
-  counted_typed d slot n test small le each =
-      let codes = count_codes d test n in
-      let p2 = slot + 1 in
-      let end = slot + length (counted_code d n test) in
-      let b = begin_typed program shape last solid d slot small (omega (arith, le)) in
-      let e : p2 + length codes ≡ end = omega arith in
-      let c = typed_at p2 (p2 + length codes) end codes (C (plain (d + 1)) p2) (plain (d + 1)) e
-      (counts_typed d p2 n test small (omega (arith, le)) each) in
-      typed_seq slot p2 (clear_code (number_place d) ∷ []) codes (C (plain d) slot) (C (plain (d + 1)) p2)
-      (C (plain (d + 1)) end) refl b c
-
-  count_typed : (d slot n : ℕ) (test : ℕ → List Insn) → d < PLACES → slot + length (count_code d n test) ≤ last
-      → ((j to : ℕ) → to + length (test j) + length (increment_code (number_place d)) ≤ last
-      → TermTyped (count_test d) (d + 1) to (test j))
-      → TermTyped Value d slot (count_code d n test)
-  count_typed d slot n test small le each =
-      let codes = counted_code d n test in
-      let last_one = fetch_code R0 (number_place d) ∷ [] in
-      let len : length (codes ++ last_one) ≡ length codes + 1 = length-append codes last_one in
-      let p3 = slot + length codes in
-      let end = slot + length (codes ++ last_one) in
-      let c = counted_typed d slot n test small (omega (arith, len, le)) each in
-      let f = fetch_typed program shape last solid d (d + 1) Unset p3 (omega arith) (omega (arith, small)) tt
-      (omega (arith, len, le)) in
-      let e : p3 + 1 ≡ end = omega (arith, len) in
-      let f1 = typed_at p3 (p3 + 1) end last_one (C (plain (d + 1)) p3) (valued (d + 1)) e f in
-      let f2 = typed_as program shape last solid p3 last_one (C (plain (d + 1)) p3) (C (valued (d + 1)) end)
-      (C (plain (d + 1)) p3) (C (valued d) end) (λ table h. h)
-      (λ table h. covers_less table (valued (d + 1)) (valued d) end (known_less d word Unset Unset) h) f1 in
-      typed_seq slot p3 codes last_one (C (plain d) slot) (C (plain (d + 1)) p3) (C (valued d) end) refl c f2
-
   -- ---- calls, loads, the mail
 
   me_typed : (d slot : ℕ) → shape.nodes ≤ 64 → slot + 1 ≤ last
@@ -1301,6 +1281,18 @@ module _ (program : List Insn) (shape : Extent) (last : ℕ) (solid : (k : ℕ) 
       (just (cast_unsigned w64 (pos j) % 2 ^ 64), refl, record { low = omega arith; high = omega (arith, lt, imm) }) tt
       refl) (proper_known d Unset Unset Unset tt tt tt) (keeps_own _ _ _ refl) le
 
+  -- the last message from a known node
+  known_node_typed : (d j slot : ℕ) → j < shape.nodes → shape.nodes ≤ 64 → slot + 2 ≤ last
+      → TermTyped Value d slot (set_node R1 j ∷ i.Call (pos 2) ∷ [])
+  known_node_typed d j slot lt few le =
+      let a = node_typed d j slot lt few (omega (arith, le)) in
+      let e : slot + 1 + 1 ≡ slot + 2 = omega arith in
+      let b = typed_at (slot + 1) (slot + 1 + 1) (slot + 2) (i.Call (pos 2) ∷ [])
+      (C (known d Unset some_node Unset) (slot + 1)) (valued d) e
+      (recv_typed d (slot + 1) (omega (arith, lt)) (omega (arith, le))) in
+      typed_seq slot (slot + 1) (set_node R1 j ∷ []) (i.Call (pos 2) ∷ []) (C (plain d) slot)
+      (C (known d Unset some_node Unset) (slot + 1)) (C (valued d) (slot + 2)) refl a b
+
   some_node_typed : (d n slot : ℕ) (code : List Insn) → n ≡ shape.nodes → 1 ≤ n → n ≤ 64
       → slot + length (code ++ message_code n) ≤ last → (slot + length code ≤ last → TermTyped Value d slot code)
       → TermTyped Value d slot (code ++ message_code n)
@@ -1324,15 +1316,7 @@ module _ (program : List Insn) (shape : Extent) (last : ℕ) (solid : (k : ℕ) 
       let P : List Insn → Type 0 = λ c. slot + length c ≤ last → TermTyped Value d slot c in
       let whole : P (message_by (Constant j) n code) = elim (cases_Bool (nat_lt j n)) [
         | inl so ↦ subst P (sym (cond-true (nat_lt j n) known_node none so))
-            (λ l.
-            let a = node_typed d j slot (omega (arith, ltb-true j n so, same)) (omega (arith, same, few))
-            (omega (arith, l)) in
-            let e : slot + 1 + 1 ≡ slot + 2 = omega arith in
-            let b = typed_at (slot + 1) (slot + 1 + 1) (slot + 2) (i.Call (pos 2) ∷ [])
-            (C (known d Unset some_node Unset) (slot + 1)) (valued d) e
-            (recv_typed d (slot + 1) (omega (arith, same, some)) (omega (arith, l))) in
-            typed_seq slot (slot + 1) (set_node R1 j ∷ []) (i.Call (pos 2) ∷ []) (C (plain d) slot)
-            (C (known d Unset some_node Unset) (slot + 1)) (C (valued d) (slot + 2)) refl a b)
+            (λ l. known_node_typed d j slot (omega (arith, ltb-true j n so, same)) (omega (arith, same, few)) l)
         | inr other ↦ subst P (sym (cond-false (nat_lt j n) known_node none other))
             (λ l. number_typed program shape last solid d 4294967295 slot l)
       ] in
@@ -1342,6 +1326,120 @@ module _ (program : List Insn) (shape : Extent) (last : ℕ) (solid : (k : ℕ) 
   message_by_typed (FromWord k) d n slot code same some few le first = some_node_typed d n slot code same
       some few le first
   message_by_typed Computed d n slot code same some few le first = some_node_typed d n slot code same some few le first
+
+  -- ---- tallies
+
+  -- a message into a place that is in use, if it is less
+  lower_typed : (p : Place) (k d j slot : ℕ) → number_place k ≡ p → k < d → d ≤ PLACES → j < shape.nodes
+      → shape.nodes ≤ 64 → slot + length (lower_code p j) ≤ last
+      → T slot (lower_code p j) (C (plain d) slot) (C (plain d) (slot + length (lower_code p j)))
+  lower_typed p k d j slot same lt few node most le =
+      let asked = set_node R1 j ∷ i.Call (pos 2) ∷ [] in
+      let left = asked ++ load_place p in
+      let jump = jump_by AtLeast (place_operand p) 1 ∷ [] in
+      let keep = keep_code p ∷ [] in
+      let len : length (left ++ (jump ++ keep)) ≡ length left + 2 = length-append left (jump ++ keep) in
+      let p1 = slot + length left in
+      let p2 = p1 + 1 in
+      let p3 = p2 + 1 in
+      let S = plain d in
+      let V = valued d in
+      let K = known d word (place_r1 p) Unset in
+      let is : IsPlace p k = subst (λ (q : Place). IsPlace q k) same (place_is k (omega (arith, lt, few))) in
+      let a = place_loaded_typed p k d slot asked is lt (omega (arith, len, le))
+      (λ l. known_node_typed d j slot node most l) in
+      let f = place_fork AtLeast p k d p1 1 is lt (omega (arith, len, le)) in
+      let g = subst (λ (q : Place). T p2 (keep_code q ∷ []) (C V p2) (C S p3)) same
+      (change_typed program shape last solid k d p2 lt few (omega (arith, len, le))) in
+      let fg = typed_then program shape last solid p1 p2 jump keep (C K p1) (λ table. C V p2 table × C V p3 table)
+      (C V p2) (C S p3) refl f g (λ table o asks. (o, covers_less table V S p3 (valued_less d) asks)) in
+      let fg1 = typed_as program shape last solid p1 (jump ++ keep) (λ table. C K p1 table × C V p2 table) (C S p3)
+      (C K p1) (C S p3) (λ table h. h.0) (λ table h. h) fg in
+      let e : p3 ≡ slot + length (left ++ (jump ++ keep)) = omega (arith, len) in
+      typed_at slot p3 (slot + length (left ++ (jump ++ keep))) (left ++ (jump ++ keep)) (C S slot) S e
+      (typed_seq slot p1 left (jump ++ keep) (C S slot) (C K p1) (C S p3) refl a fg1)
+
+  step_typed : (tally : Tally) (d j slot : ℕ) → d < PLACES → j < shape.nodes → shape.nodes ≤ 64
+      → slot + length (tally_step tally (number_place d) j) ≤ last
+      → T slot (tally_step tally (number_place d) j) (C (plain (d + 1)) slot)
+      (C (plain (d + 1)) (slot + length (tally_step tally (number_place d) j)))
+  step_typed HowMany d j slot small node most le =
+      increment_typed (number_place d) d (d + 1) slot refl (omega arith) (omega (arith, small)) le
+  step_typed LeastMessage d j slot small node most le =
+      lower_typed (number_place d) d (d + 1) j slot refl (omega arith) (omega (arith, small)) node most le
+
+  -- the tests of a tally
+  abbrev pub TestsTyped : Tally → ℕ → (ℕ → List Insn) → Type 0
+  TestsTyped tally d test = (j to : ℕ) → to + length (test j) + length (tally_step tally (number_place d) 0) ≤ last
+      → TermTyped (tally_test tally d) (d + 1) to (test j)
+
+  tallies_typed : (tally : Tally) (d slot n : ℕ) (test : ℕ → List Insn) → d < PLACES → n ≤ shape.nodes
+      → shape.nodes ≤ 64 → slot + length (tally_codes (tally_step tally (number_place d)) test n) ≤ last
+      → TestsTyped tally d test
+      → T slot (tally_codes (tally_step tally (number_place d)) test n) (C (plain (d + 1)) slot)
+      (C (plain (d + 1)) (slot + length (tally_codes (tally_step tally (number_place d)) test n)))
+  tallies_typed tally d slot zero test small within most le each =
+      let e : slot ≡ slot + 0 = omega arith in
+      typed_at slot slot (slot + 0) [] (C (plain (d + 1)) slot) (plain (d + 1)) e
+      (typed_none program shape last solid slot (C (plain (d + 1)) slot))
+  tallies_typed tally d slot (suc n) test small within most le each =
+      let steps = tally_step tally (number_place d) in
+      let front = tally_codes steps test n in
+      let back = test n ++ steps n in
+      let len : length (front ++ back) ≡ length front + (length (test n) + length (steps n)) = omega
+      (arith, length-append front back, length-append (test n) (steps n)) in
+      let alike : length (steps n) ≡ length (steps 0) = steps_alike tally (number_place d) n in
+      let p1 = slot + length front in
+      let p2 = p1 + length (test n) in
+      let p3 = p2 + length (steps n) in
+      let S = plain (d + 1) in
+      let f = tallies_typed tally d slot n test small (omega (arith, within)) most (omega (arith, len, le)) each in
+      let e1 : p2 + length (steps 0) ≡ p3 = omega (arith, alike) in
+      let t = subst (λ (x : ℕ). T p1 (test n) (C S p1) (λ table. C S p2 table × C S x table)) e1
+      (each n p1 (omega (arith, len, le, alike))) in
+      let a = step_typed tally d n p2 small (omega (arith, within)) most (omega (arith, len, le)) in
+      let ta = typed_then program shape last solid p1 p2 (test n) (steps n) (C S p1) (λ table. C S p2 table × C S p3 table)
+      (C S p2) (C S p3) refl t a (λ table o asks. (o, asks)) in
+      let ta1 = typed_as program shape last solid p1 back (λ table. C S p1 table × C S p2 table) (C S p3) (C S p1)
+      (C S p3) (λ table h. h.0) (λ table h. h) ta in
+      let e : p3 ≡ slot + length (front ++ back) = omega (arith, len) in
+      typed_at slot p3 (slot + length (front ++ back)) (front ++ back) (C S slot) S e
+      (typed_seq slot p1 front back (C S slot) (C S p1) (C S p3) refl f ta1)
+
+  -- a tally that stays in the next place
+  pub tallied_typed : (tally : Tally) (d slot n : ℕ) (test : ℕ → List Insn) → d < PLACES → n ≤ shape.nodes
+      → shape.nodes ≤ 64 → slot + length (tallied_code tally d n test) ≤ last → TestsTyped tally d test
+      → T slot (tallied_code tally d n test) (C (plain d) slot)
+      (C (plain (d + 1)) (slot + length (tallied_code tally d n test)))
+  tallied_typed tally d slot n test small within most le each =
+      let codes = tally_codes (tally_step tally (number_place d)) test n in
+      let p2 = slot + 1 in
+      let end = slot + length (tallied_code tally d n test) in
+      let b = begin_typed program shape last solid d (tally_start tally) slot small (omega (arith, le)) in
+      let e : p2 + length codes ≡ end = omega arith in
+      let c = typed_at p2 (p2 + length codes) end codes (C (plain (d + 1)) p2) (plain (d + 1)) e
+      (tallies_typed tally d p2 n test small within most (omega (arith, le)) each) in
+      typed_seq slot p2 (start_code (number_place d) (tally_start tally) ∷ []) codes (C (plain d) slot)
+      (C (plain (d + 1)) p2) (C (plain (d + 1)) end) refl b c
+
+  tally_typed : (tally : Tally) (d slot n : ℕ) (test : ℕ → List Insn) → d < PLACES → n ≤ shape.nodes
+      → shape.nodes ≤ 64 → slot + length (tally_code tally d n test) ≤ last → TestsTyped tally d test
+      → TermTyped Value d slot (tally_code tally d n test)
+  tally_typed tally d slot n test small within most le each =
+      let codes = tallied_code tally d n test in
+      let last_one = fetch_code R0 (number_place d) ∷ [] in
+      let len : length (codes ++ last_one) ≡ length codes + 1 = length-append codes last_one in
+      let p3 = slot + length codes in
+      let end = slot + length (codes ++ last_one) in
+      let c = tallied_typed tally d slot n test small within most (omega (arith, len, le)) each in
+      let f = fetch_typed program shape last solid d (d + 1) Unset p3 (omega arith) (omega (arith, small)) tt
+      (omega (arith, len, le)) in
+      let e : p3 + 1 ≡ end = omega (arith, len) in
+      let f1 = typed_at p3 (p3 + 1) end last_one (C (plain (d + 1)) p3) (valued (d + 1)) e f in
+      let f2 = typed_as program shape last solid p3 last_one (C (plain (d + 1)) p3) (C (valued (d + 1)) end)
+      (C (plain (d + 1)) p3) (C (valued d) end) (λ table h. h)
+      (λ table h. covers_less table (valued (d + 1)) (valued d) end (known_less d word Unset Unset) h) f1 in
+      typed_seq slot p3 codes last_one (C (plain d) slot) (C (plain (d + 1)) p3) (C (valued d) end) refl c f2
 
   -- ---- terms
 
@@ -1412,10 +1510,18 @@ module _ (program : List Insn) (shape : Extent) (last : ℕ) (solid : (k : ℕ) 
       (λ to k. term_typed a z J d lets Value to same some few room below small fits.1 (omega (arith, k)))
       (λ to k. term_typed b z J d lets Value to same some few room below small fits.2 (omega (arith, k))))
   term_typed (Count' p t) z J d lets purpose slot same some few room below small fits le =
-      let test = λ (j : ℕ). term_code t z (J ++ j ∷ []) (d + 1) (count_test d) in
-      by_value_typed purpose d slot (count_code d z.nodes test) le
-      (λ l. count_typed d slot z.nodes test fits.0 l
+      let test = λ (j : ℕ). term_code t z (J ++ j ∷ []) (d + 1) (tally_test HowMany d) in
+      by_value_typed purpose d slot (tally_code HowMany d z.nodes test) le
+      (λ l. tally_typed HowMany d slot z.nodes test fits.0 (omega (arith, same)) (omega (arith, same, few)) l
       (λ j to k.
       let more : length J + 1 ≡ length (J ++ j ∷ []) = omega (arith, length-append J (j ∷ [])) in
-      term_typed t z (J ++ j ∷ []) (d + 1) lets (count_test d) to same some few room (omega (arith, below))
+      term_typed t z (J ++ j ∷ []) (d + 1) lets (tally_test HowMany d) to same some few room (omega (arith, below))
+      (omega (arith, fits.0)) (subst (λ (n : ℕ). Fits t z n lets (d + 1)) more fits.1) k))
+  term_typed (Least' p t) z J d lets purpose slot same some few room below small fits le =
+      let test = λ (j : ℕ). term_code t z (J ++ j ∷ []) (d + 1) (tally_test LeastMessage d) in
+      by_value_typed purpose d slot (tally_code LeastMessage d z.nodes test) le
+      (λ l. tally_typed LeastMessage d slot z.nodes test fits.0 (omega (arith, same)) (omega (arith, same, few)) l
+      (λ j to k.
+      let more : length J + 1 ≡ length (J ++ j ∷ []) = omega (arith, length-append J (j ∷ [])) in
+      term_typed t z (J ++ j ∷ []) (d + 1) lets (tally_test LeastMessage d) to same some few room (omega (arith, below))
       (omega (arith, fits.0)) (subst (λ (n : ℕ). Fits t z n lets (d + 1)) more fits.1) k))

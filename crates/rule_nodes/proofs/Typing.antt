@@ -29,7 +29,7 @@ use Rattle.clock_nodes.proofs.Taken.{covered, KeepsOwn, keeps_own, Sound, sound_
 use Rattle.rule_nodes.specs.declared.numbers.TheConstants.{PLACES}
 use Rattle.rule_nodes.specs.declared.numbers.Place.{Place}
 use Rattle.rule_nodes.specs.declared.numbers.Place.TheVariants.{InRegister, OnStack}
-use Rattle.rule_nodes.specs.Code.{number_place, fetch_code, keep_code, clear_code, set_number, copy}
+use Rattle.rule_nodes.specs.Code.{number_place, fetch_code, keep_code, start_code, set_number, copy}
 use Rattle.rule_nodes.proofs.Places.{IsPlace, place_is, not_frame}
 
 -- ---- states: at depth d
@@ -243,12 +243,13 @@ register_bytes k d e small grows byte h =
       | inr one ↦ absurd (omega (arith, b.low, b.high, one.0, one.1, small))
     ]
 
--- a number of 32 bits in the register of place k
-pub placed_in : (register : Reg) (k d e : ℕ) (A : AbstractState) (K : AbstractValue)
+-- a number of 32 bits in the register of place k, beside what is known of r0
+pub placed_beside : (register : Reg) (k d e : ℕ) (A : AbstractState) (K k0 : AbstractValue)
     → IsPlace (InRegister register) k → Grows k d e → rest_of A ≡ rest_of (plain d) → IsKindIn K word
-    → IsContainedIn (with_kind A register K) (plain e)
-placed_in register k d e A K is grows same h =
-    subst (λ (n : ℕ). IsContainedIn (with_kinds A (put_kind A.kinds n K)) (plain e)) (sym is.0) (by k is.1 grows)
+    → IsKindIn (A.kinds 0) k0 → IsContainedIn (with_kind A register K) (known e k0 Unset Unset)
+placed_beside register k d e A K k0 is grows same h h0 =
+    subst (λ (n : ℕ). IsContainedIn (with_kinds A (put_kind A.kinds n K)) (known e k0 Unset Unset)) (sym is.0)
+    (by k is.1 grows)
   where
     at_6 : IsKindIn (A.kinds 6) memory_place
     at_6 = same_kind _ _ (ap (λ (x : Rest). x.r6) same)
@@ -259,23 +260,28 @@ placed_in register k d e A K is grows same h =
     beside : (j k : ℕ) (l : AbstractValue) → l ≡ held j d → j ≢ k → Grows k d e → IsKindIn l (held j e)
     beside j k l eq other g = subst (λ (x : AbstractValue). IsKindIn x (held j e)) (sym eq) (held_grows j k d e other g)
 
-    by : (k : ℕ) → k < 3 → Grows k d e → IsContainedIn (with_kinds A (put_kind A.kinds (7 + k) K)) (plain e)
+    by : (k : ℕ) → k < 3 → Grows k d e → IsContainedIn (with_kinds A (put_kind A.kinds (7 + k) K)) (known e k0 Unset Unset)
     by zero small g =
-        within _ Unset Unset Unset memory_place (held 0 e) (held 1 e) (held 2 e) stack_base (written_at e) tt tt tt at_6
+        within _ k0 Unset Unset memory_place (held 0 e) (held 1 e) (held 2 e) stack_base (written_at e) h0 tt tt at_6
         (held_in 0 e K h) (beside 1 0 _ (ap (λ (x : Rest). x.r8) same) (λ q. omega (arith, q)) g)
         (beside 2 0 _ (ap (λ (x : Rest). x.r9) same) (λ q. omega (arith, q)) g) at_10
         (λ byte w. ap (λ (x : Rest). x.bytes byte) same ∙ register_bytes 0 d e small g byte w)
     by (suc zero) small g =
-        within _ Unset Unset Unset memory_place (held 0 e) (held 1 e) (held 2 e) stack_base (written_at e) tt tt tt at_6
+        within _ k0 Unset Unset memory_place (held 0 e) (held 1 e) (held 2 e) stack_base (written_at e) h0 tt tt at_6
         (beside 0 1 _ (ap (λ (x : Rest). x.r7) same) (λ q. omega (arith, q)) g) (held_in 1 e K h)
         (beside 2 1 _ (ap (λ (x : Rest). x.r9) same) (λ q. omega (arith, q)) g) at_10
         (λ byte w. ap (λ (x : Rest). x.bytes byte) same ∙ register_bytes 1 d e small g byte w)
     by (suc (suc zero)) small g =
-        within _ Unset Unset Unset memory_place (held 0 e) (held 1 e) (held 2 e) stack_base (written_at e) tt tt tt at_6
+        within _ k0 Unset Unset memory_place (held 0 e) (held 1 e) (held 2 e) stack_base (written_at e) h0 tt tt at_6
         (beside 0 2 _ (ap (λ (x : Rest). x.r7) same) (λ q. omega (arith, q)) g)
         (beside 1 2 _ (ap (λ (x : Rest). x.r8) same) (λ q. omega (arith, q)) g) (held_in 2 e K h) at_10
         (λ byte w. ap (λ (x : Rest). x.bytes byte) same ∙ register_bytes 2 d e small g byte w)
     by (suc (suc (suc n))) small g = absurd (omega (arith, small))
+
+pub placed_in : (register : Reg) (k d e : ℕ) (A : AbstractState) (K : AbstractValue)
+    → IsPlace (InRegister register) k → Grows k d e → rest_of A ≡ rest_of (plain d) → IsKindIn K word
+    → IsContainedIn (with_kind A register K) (plain e)
+placed_in register k d e A K is grows same h = placed_beside register k d e A K Unset is grows same h tt
 
 -- what is known of the register of place k
 pub register_kind : (register : Reg) (k d : ℕ) (k0 k1 k2 : AbstractValue) → IsPlace (InRegister register) k → k < d
@@ -562,13 +568,13 @@ module _ (program : List Insn) (shape : Extent) (last : ℕ) (solid : (k : ℕ) 
       (rw near refl) (stacked_in n k d e (valued d) is grows refl) (proper_known d word Unset Unset some_word tt tt)
       (keeps_own _ _ _ (rw (near, inside) refl)) le
 
-  -- 0 into a place
-  clear_place : (p : Place) (k d e : ℕ) (slot : ℕ) → IsPlace p k → Grows k d e → slot + 1 ≤ last
-      → Typing slot (clear_code p ∷ []) (Covers (plain d) slot) (Covers (plain e) (slot + 1))
-  clear_place (InRegister register) k d e slot is grows le =
-      let x = cast_unsigned w64 (cast_signed w32 0) % 2 ^ 32 in
+  -- a number of 32 bits into a place
+  start_place : (p : Place) (k d e v : ℕ) (slot : ℕ) → IsPlace p k → Grows k d e → slot + 1 ≤ last
+      → Typing slot (start_code p v ∷ []) (Covers (plain d) slot) (Covers (plain e) (slot + 1))
+  start_place (InRegister register) k d e v slot is grows le =
+      let x = cast_unsigned w64 (cast_signed w32 v) % 2 ^ 32 in
       let K = Number (alu_of Mov W32 (just x) (just x)) in
-      let own : KeepsOwn shape (set_number register 0) (plain d) = record {
+      let own : KeepsOwn shape (set_number register v) (plain d) = record {
         forward = refl;
         known = refl;
         set = refl;
@@ -580,13 +586,13 @@ module _ (program : List Insn) (shape : Extent) (last : ℕ) (solid : (k : ℕ) 
         exit = refl;
         base = refl;
       } in
-      one_on slot (set_number register 0) (plain d) (with_kind (plain d) register K) (plain e) refl refl refl
+      one_on slot (set_number register v) (plain d) (with_kind (plain d) register K) (plain e) refl refl refl
       (placed_in register k d e (plain d) K is grows refl (short x)) (proper_known d Unset Unset Unset tt tt tt) own le
-  clear_place (OnStack (pos n)) k d e slot is grows le = absurd is
-  clear_place (OnStack (negsuc n)) k d e slot is grows le =
+  start_place (OnStack (pos n)) k d e v slot is grows le = absurd is
+  start_place (OnStack (negsuc n)) k d e v slot is grows le =
       let near = reached n (omega (arith, is.0, is.1)) in
       let inside = room n (omega (arith, is.0)) in
-      one_on slot (i.StoreImm size.W R10 (negsuc n) (pos 0)) (plain d) (stacked (plain d) n) (plain e) refl refl
+      one_on slot (i.StoreImm size.W R10 (negsuc n) (cast_signed w32 v)) (plain d) (stacked (plain d) n) (plain e) refl refl
       (rw near refl) (stacked_in n k d e (plain d) is grows refl) (proper_known d Unset Unset Unset tt tt tt)
       (keeps_own _ _ _ (rw (near, inside) refl)) le
 
@@ -609,10 +615,10 @@ module _ (program : List Insn) (shape : Extent) (last : ℕ) (solid : (k : ℕ) 
   change_typed k d slot lt few le =
       keep_place (number_place k) k d d slot (place_is k (omega (arith, lt, few))) (grows_none k d lt) le
 
-  -- 0 into the next place
-  pub begin_typed : (d slot : ℕ) → d < PLACES → slot + 1 ≤ last
-      → Typing slot (clear_code (number_place d) ∷ []) (Covers (plain d) slot) (Covers (plain (d + 1)) (slot + 1))
-  begin_typed d slot lt le = clear_place (number_place d) d d (d + 1) slot (place_is d lt) (grows_one d) le
+  -- a number of 32 bits into the next place
+  pub begin_typed : (d v slot : ℕ) → d < PLACES → slot + 1 ≤ last
+      → Typing slot (start_code (number_place d) v ∷ []) (Covers (plain d) slot) (Covers (plain (d + 1)) (slot + 1))
+  begin_typed d v slot lt le = start_place (number_place d) d d (d + 1) v slot (place_is d lt) (grows_one d) le
 
   -- r0 into r1
   pub second_typed : (d slot : ℕ) → slot + 1 ≤ last

@@ -37,16 +37,18 @@ use Rattle.rule_syntax.specs.declared.syntax.Target.{Target}
 use Rattle.rule_syntax.specs.declared.syntax.Target.TheVariants.{ToLocal, ToWord}
 use Rattle.rule_syntax.specs.declared.syntax.Assignment.{Assignment}
 use Rattle.rule_syntax.specs.declared.syntax.Assignment.TheVariants.{One, Also'}
+use Rattle.rule_nodes.specs.declared.numbers.Tally.{Tally}
+use Rattle.rule_nodes.specs.declared.numbers.Tally.TheVariants.{HowMany, LeastMessage}
 use Rattle.rule_nodes.specs.declared.numbers.Source.{Source}
 use Rattle.rule_nodes.specs.declared.numbers.Source.TheVariants.{Constant, FromLocal, FromWord, Computed}
 use Rattle.rule_syntax.specs.declared.syntax.Term.{Term}
-use Rattle.rule_syntax.specs.declared.syntax.Term.TheVariants.{Number, Nodes, Faults, Modulus, Me, Coin, LoopNode, Local, Word, Message', Binary', Logical', Not', Choice', Count'}
+use Rattle.rule_syntax.specs.declared.syntax.Term.TheVariants.{Number, Nodes, Faults, Modulus, Me, Coin, LoopNode, Local, Word, Message', Binary', Logical', Not', Choice', Count', Least'}
 use Rattle.rule_syntax.specs.declared.syntax.Statement.{Statement}
 use Rattle.rule_syntax.specs.declared.syntax.Statement.TheVariants.{Nothing, Then', Let', Assign, If', For', SendAll, SendTo}
 use Rattle.rule_nodes.specs.Meaning.{initial_state}
 use Rattle.rule_nodes.specs.Operands.{is_constant, constant_number, is_local, is_operand, is_steady, depth_behind, term_source}
 use Rattle.rule_nodes.specs.Fits.{BlockFits}
-use Rattle.rule_nodes.specs.Code.{number_place, fetch_code, keep_code, clear_code, increment_code, load_place, set_number, set_node, get_code, operand_code, load_code, left_code, right_code, beside_code, binary_code, mirror, message_by, copy, truth_code, by_value, by_test, by_operator, two_code, choice_code, if_code, is_nothing, decides, both_far, both_code, jump_on, jump_by, jump_register, message_code, count_codes, count_test, term_code, assign_code, place_code, word_code, set_code, change_place, given_code, alu_op_of, changing_insn, one_code, also_code, assignment_code, stored_code, let_code, send_code, send_codes, send_all_code, passed_code, send_to_code, each_code, block_code, tail_code, rule_code}
+use Rattle.rule_nodes.specs.Code.{number_place, fetch_code, keep_code, start_code, increment_code, load_place, set_number, set_node, get_code, operand_code, load_code, left_code, right_code, beside_code, binary_code, mirror, message_by, copy, truth_code, by_value, by_test, by_operator, two_code, choice_code, if_code, is_nothing, decides, both_far, both_code, jump_on, jump_by, jump_register, message_code, tally_start, tally_step, tally_codes, tallied_code, tally_test, term_code, assign_code, place_code, word_code, set_code, change_place, given_code, alu_op_of, changing_insn, one_code, also_code, assignment_code, stored_code, let_code, send_code, send_codes, send_all_code, passed_code, receiver_code, send_to_code, each_code, block_code, tail_code, rule_code}
 use Rattle.rule_nodes.specs.Ends.{AreSizes, IsRuleEnd}
 use Rattle.rule_nodes.proofs.Forms.{leads_add, once, chain, further}
 use Rattle.rule_nodes.proofs.States.{stands_front, stands_back, Holds, IsSized}
@@ -72,9 +74,9 @@ one_keep : (p : Place) → slots_taken (keep_code p) ≡ 1
 one_keep (InRegister register) = refl
 one_keep (OnStack off) = refl
 
-one_clear : (p : Place) → slots_taken (clear_code p) ≡ 1
-one_clear (InRegister register) = refl
-one_clear (OnStack off) = refl
+one_start : (p : Place) (v : ℕ) → slots_taken (start_code p v) ≡ 1
+one_start (InRegister register) v = refl
+one_start (OnStack off) v = refl
 
 ones_increment : (p : Place) → Ones (increment_code p)
 ones_increment (InRegister register) = (refl, tt)
@@ -163,10 +165,25 @@ ones_if : (alone : Bool) (test : ℕ → List Insn) (a b : List Insn) → ((far 
 ones_if true test a b k h g = ones_append (test (length a)) a (k (length a)) h
 ones_if false test a b k h g = ones_choice test a b k h g
 
-ones_counts : (d : ℕ) (test : ℕ → List Insn) (n : ℕ) → ((j : ℕ) → Ones (test j)) → Ones (count_codes d test n)
-ones_counts d test zero h = tt
-ones_counts d test (suc n) h = ones_append (count_codes d test n) _ (ones_counts d test n h)
-    (ones_append (test n) _ (h n) (ones_increment (number_place d)))
+ones_step : (tally : Tally) (p : Place) (j : ℕ) → Ones (tally_step tally p j)
+ones_step HowMany p j = ones_increment p
+ones_step LeastMessage p j =
+    (refl, (refl, ones_append (load_place p) _ (ones_place p) (refl, (one_keep p, tt))))
+
+ones_tallies : (step test : ℕ → List Insn) (n : ℕ) → ((j : ℕ) → Ones (step j)) → ((j : ℕ) → Ones (test j))
+    → Ones (tally_codes step test n)
+ones_tallies step test zero h g = tt
+ones_tallies step test (suc n) h g =
+    ones_append (tally_codes step test n) _ (ones_tallies step test n h g) (ones_append (test n) _ (g n) (h n))
+
+-- a tally, and what follows
+ones_tallied : (tally : Tally) (d n : ℕ) (test : ℕ → List Insn) (rest : List Insn) → ((j : ℕ) → Ones (test j))
+    → Ones rest → Ones (tallied_code tally d n test ++ rest)
+ones_tallied tally d n test rest h g = (
+  one_start (number_place d) (tally_start tally),
+  ones_append (tally_codes (tally_step tally (number_place d)) test n) rest
+      (ones_tallies (tally_step tally (number_place d)) test n (ones_step tally (number_place d)) h) g,
+)
 
 ones_term : (t : Term) (z : Sizes) (J : List ℕ) (d : ℕ) (purpose : Purpose) → Ones (term_code t z J d purpose)
 ones_term (Number v) z J d purpose = ones_value purpose _ (refl, tt)
@@ -194,12 +211,12 @@ ones_term (Not' p a) z J d purpose = ones_test purpose (λ when far. term_code a
 ones_term (Choice' p t q a r b) z J d purpose = ones_value purpose _
     (ones_choice (λ far. term_code t z J d (Jump false far)) _ _ (λ far. ones_term t z J d (Jump false far))
     (ones_term a z J d Value) (ones_term b z J d Value))
-ones_term (Count' p t) z J d purpose = ones_value purpose _ (
-  one_clear (number_place d),
-  ones_append (count_codes d (λ j. term_code t z (J ++ j ∷ []) (d + 1) (count_test d)) z.nodes) _
-      (ones_counts d (λ j. term_code t z (J ++ j ∷ []) (d + 1) (count_test d)) z.nodes
-      (λ j. ones_term t z (J ++ j ∷ []) (d + 1) (count_test d))) (one_fetch R0 (number_place d), tt),
-)
+ones_term (Count' p t) z J d purpose = ones_value purpose _
+    (ones_tallied HowMany d z.nodes (λ j. term_code t z (J ++ j ∷ []) (d + 1) (tally_test HowMany d)) _
+    (λ j. ones_term t z (J ++ j ∷ []) (d + 1) (tally_test HowMany d)) (one_fetch R0 (number_place d), tt))
+ones_term (Least' p t) z J d purpose = ones_value purpose _
+    (ones_tallied LeastMessage d z.nodes (λ j. term_code t z (J ++ j ∷ []) (d + 1) (tally_test LeastMessage d)) _
+    (λ j. ones_term t z (J ++ j ∷ []) (d + 1) (tally_test LeastMessage d)) (one_fetch R0 (number_place d), tt))
 
 ones_assign : (target : Target) → Ones (assign_code target ∷ [])
 ones_assign (ToLocal k) = (one_keep (number_place k), tt)
@@ -290,12 +307,12 @@ ones_stored (FromWord k) d code rest h g = ones_append (place_code (number_place
 ones_stored Computed d code rest h g = ones_append code (keep_code (number_place d) ∷ rest) h (one_keep (number_place d), g)
 
 ones_let : (e : Term) (z : Sizes) (J : List ℕ) (d : ℕ) (rest : List Insn) → Ones rest → Ones (let_code e z J d rest)
-ones_let (Count' p t) z J d rest h = (
-  one_clear (number_place d),
-  ones_append (count_codes d (λ j. term_code t z (J ++ j ∷ []) (d + 1) (count_test d)) z.nodes) rest
-      (ones_counts d (λ j. term_code t z (J ++ j ∷ []) (d + 1) (count_test d)) z.nodes
-      (λ j. ones_term t z (J ++ j ∷ []) (d + 1) (count_test d))) h,
-)
+ones_let (Count' p t) z J d rest h =
+    ones_tallied HowMany d z.nodes (λ j. term_code t z (J ++ j ∷ []) (d + 1) (tally_test HowMany d)) rest
+    (λ j. ones_term t z (J ++ j ∷ []) (d + 1) (tally_test HowMany d)) h
+ones_let (Least' p t) z J d rest h =
+    ones_tallied LeastMessage d z.nodes (λ j. term_code t z (J ++ j ∷ []) (d + 1) (tally_test LeastMessage d)) rest
+    (λ j. ones_term t z (J ++ j ∷ []) (d + 1) (tally_test LeastMessage d)) h
 ones_let e z J d rest h =
     ones_stored (term_source e z J) d (term_code e z J d Value) rest (ones_term e z J d Value) h
 
@@ -307,6 +324,19 @@ ones_passed (Constant c) j code h = ones_send (Constant c) j
 ones_passed (FromLocal k) j code h = ones_send (FromLocal k) j
 ones_passed (FromWord k) j code h = ones_send (FromWord k) j
 ones_passed Computed j code h = ones_append code _ h (ones_send Computed j)
+
+ones_receiver : (x : Source) (n : ℕ) → Ones (receiver_code x n)
+ones_receiver x n = (refl, (refl, (takes_one R2 x, (refl, tt))))
+
+ones_send_to : (x : Source) (d n : ℕ) (code receiver : List Insn) → Ones code → Ones receiver
+    → Ones (send_to_code x d n code receiver)
+ones_send_to (Constant c) d n code receiver h g = ones_append receiver _ g (ones_receiver (Constant c) n)
+ones_send_to (FromLocal k) d n code receiver h g = ones_append receiver _ g (ones_receiver (FromLocal k) n)
+ones_send_to (FromWord k) d n code receiver h g = ones_append receiver _ g (ones_receiver (FromWord k) n)
+ones_send_to Computed d n code receiver h g = ones_append code _ h (
+  one_keep (number_place d),
+  ones_append receiver _ g (ones_receiver (FromLocal d) n),
+)
 
 ones_cond : (b : Bool) (x y : List Insn) → Ones x → Ones y → Ones (if b then x else y)
 ones_cond true x y h g = h
@@ -329,11 +359,9 @@ ones_block (SendTo e k) z J d =
     ones_cond (is_constant k) (if nat_lt (constant_number k z J) z.nodes then code else []) _
     (ones_cond (nat_lt (constant_number k z J) z.nodes) code []
     (ones_passed (term_source e z J) (constant_number k z J) (term_code e z J d Value) (ones_term e z J d Value)) tt)
-    (ones_append (term_code e z J d Value) _ (ones_term e z J d Value) (
-      one_keep (number_place d),
-      ones_append (term_code k z J (d + 1) Value) (send_to_code d z.nodes) (ones_term k z J (d + 1) Value)
-          (refl, (refl, (one_fetch R2 (number_place d), (refl, tt)))),
-    ))
+    (ones_send_to (term_source e z J) d z.nodes (term_code e z J d Value)
+    (term_code k z J (depth_behind (is_operand e) d) Value) (ones_term e z J d Value)
+    (ones_term k z J (depth_behind (is_operand e) d) Value))
 
 pub ones_rule : (rule : Statement) (z : Sizes) → Ones (rule_code rule z)
 ones_rule rule z = (refl, ones_append (block_code rule z [] 0) tail_code (ones_block rule z [] 0) (refl, (refl, tt)))

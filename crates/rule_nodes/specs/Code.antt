@@ -35,10 +35,12 @@ use Rattle.rule_nodes.specs.declared.numbers.Purpose.TheVariants.{Value, Jump}
 use Rattle.rule_nodes.specs.declared.numbers.TheConstants.{PLACES}
 use Rattle.rule_nodes.specs.declared.numbers.Place.{Place}
 use Rattle.rule_nodes.specs.declared.numbers.Place.TheVariants.{InRegister, OnStack}
+use Rattle.rule_nodes.specs.declared.numbers.Tally.{Tally}
+use Rattle.rule_nodes.specs.declared.numbers.Tally.TheVariants.{HowMany, LeastMessage}
 use Rattle.rule_nodes.specs.declared.numbers.Source.{Source}
 use Rattle.rule_nodes.specs.declared.numbers.Source.TheVariants.{Constant, FromLocal, FromWord, Computed}
 use Rattle.rule_syntax.specs.declared.syntax.Term.{Term}
-use Rattle.rule_syntax.specs.declared.syntax.Term.TheVariants.{Number, Nodes, Faults, Modulus, Me, Coin, LoopNode, Local, Word, Message', Binary', Logical', Not', Choice', Count'}
+use Rattle.rule_syntax.specs.declared.syntax.Term.TheVariants.{Number, Nodes, Faults, Modulus, Me, Coin, LoopNode, Local, Word, Message', Binary', Logical', Not', Choice', Count', Least'}
 use Rattle.rule_syntax.specs.declared.syntax.Statement.{Statement}
 use Rattle.rule_syntax.specs.declared.syntax.Statement.TheVariants.{Nothing, Then', Let', Assign, If', For', SendAll, SendTo}
 
@@ -75,10 +77,10 @@ abbrev pub keep_code : Place → Insn
 keep_code (InRegister register) = copy register R0
 keep_code (OnStack off) = StoreReg size.W R10 off R0
 
--- 0 into a place
-abbrev pub clear_code : Place → Insn
-clear_code (InRegister register) = set_number register 0
-clear_code (OnStack off) = StoreImm size.W R10 off (pos 0)
+-- a number of 32 bits into a place
+abbrev pub start_code : Place → ℕ → Insn
+start_code (InRegister register) v = set_number register v
+start_code (OnStack off) v = StoreImm size.W R10 off (cast_signed w32 v)
 
 -- one more in a place: on the stack by r0
 abbrev pub increment_code : Place → List Insn
@@ -266,20 +268,39 @@ message_by (Constant j) n code =
     if nat_lt j n then set_node R1 j ∷ Call (pos 2) ∷ [] else set_number R0 4294967295 ∷ []
 message_by _ n code = code ++ message_code n
 
--- one more in place d for each node below n at which the test doesn't jump
-abbrev pub count_codes : ℕ → (ℕ → List Insn) → ℕ → List Insn
-count_codes d test zero = []
-count_codes d test (suc n) = count_codes d test n ++ (test n ++ increment_code (number_place d))
+-- ---- tallies: a number in a place that is changed for each node at which a test holds
 
-abbrev pub counted_code : ℕ → ℕ → (ℕ → List Insn) → List Insn
-counted_code d n test = clear_code (number_place d) ∷ count_codes d test n
+-- the message from node j goes into a place if it is less than the number there
+abbrev pub lower_code : Place → ℕ → List Insn
+lower_code p j =
+    set_node R1 j ∷ Call (pos 2) ∷ (load_place p ++ (jump_by AtLeast (place_operand p) 1 ∷ keep_code p ∷ []))
 
-abbrev pub count_code : ℕ → ℕ → (ℕ → List Insn) → List Insn
-count_code d n test = counted_code d n test ++ fetch_code R0 (number_place d) ∷ []
+-- a count begins with 0, and the least message with none
+abbrev pub tally_start : Tally → ℕ
+tally_start HowMany = 0
+tally_start LeastMessage = 4294967295
 
--- the test of a count jumps over this
-abbrev pub count_test : ℕ → Purpose
-count_test d = Jump false (length (increment_code (number_place d)))
+-- what is done for node j
+abbrev pub tally_step : Tally → Place → ℕ → List Insn
+tally_step HowMany p j = increment_code p
+tally_step LeastMessage p j = lower_code p j
+
+-- for each node below n a test, which jumps over the step of the node if it doesn't hold
+abbrev pub tally_codes : (ℕ → List Insn) → (ℕ → List Insn) → ℕ → List Insn
+tally_codes step test zero = []
+tally_codes step test (suc n) = tally_codes step test n ++ (test n ++ step n)
+
+-- in place d
+abbrev pub tallied_code : Tally → ℕ → ℕ → (ℕ → List Insn) → List Insn
+tallied_code tally d n test =
+    start_code (number_place d) (tally_start tally) ∷ tally_codes (tally_step tally (number_place d)) test n
+
+abbrev pub tally_code : Tally → ℕ → ℕ → (ℕ → List Insn) → List Insn
+tally_code tally d n test = tallied_code tally d n test ++ fetch_code R0 (number_place d) ∷ []
+
+-- the steps of all nodes have the same length
+abbrev pub tally_test : Tally → ℕ → Purpose
+tally_test tally d = Jump false (length (tally_step tally (number_place d) 0))
 
 -- of a term at depth d
 abbrev pub term_code : Term → Sizes → List ℕ → ℕ → Purpose → List Insn
@@ -303,7 +324,9 @@ term_code (Not' p a) z J d purpose = by_test purpose (λ when far. term_code a z
 term_code (Choice' p t q a r b) z J d purpose = by_value purpose
     (choice_code (λ far. term_code t z J d (Jump false far)) (term_code a z J d Value) (term_code b z J d Value))
 term_code (Count' p t) z J d purpose = by_value purpose
-    (count_code d z.nodes (λ j. term_code t z (J ++ j ∷ []) (d + 1) (count_test d)))
+    (tally_code HowMany d z.nodes (λ j. term_code t z (J ++ j ∷ []) (d + 1) (tally_test HowMany d)))
+term_code (Least' p t) z J d purpose = by_value purpose
+    (tally_code LeastMessage d z.nodes (λ j. term_code t z (J ++ j ∷ []) (d + 1) (tally_test LeastMessage d)))
 
 -- ---- statements
 
@@ -389,9 +412,15 @@ passed_code x j code = send_code x j
 abbrev pub send_to_constant_code : Source → ℕ → ℕ → List Insn → List Insn
 send_to_constant_code x j n code = if nat_lt j n then passed_code x j code else []
 
--- to the node in r0, if there is one, from place d
-abbrev pub send_to_code : ℕ → ℕ → List Insn
-send_to_code d n = jump_at AtLeast n 3 ∷ copy R1 R0 ∷ fetch_code R2 (number_place d) ∷ Call (pos 3) ∷ []
+-- a found number to the node in r0, if there is one
+abbrev pub receiver_code : Source → ℕ → List Insn
+receiver_code x n = jump_at AtLeast n 3 ∷ copy R1 R0 ∷ get_code R2 x ∷ Call (pos 3) ∷ []
+
+-- a computed number is sent from place d, and a found one from where it is found
+abbrev pub send_to_code : Source → ℕ → ℕ → List Insn → List Insn → List Insn
+send_to_code Computed d n code receiver =
+    code ++ (keep_code (number_place d) ∷ (receiver ++ receiver_code (FromLocal d) n))
+send_to_code x d n code receiver = receiver ++ receiver_code x n
 
 abbrev pub each_code : (ℕ → List Insn) → ℕ → List Insn
 each_code body zero = []
@@ -402,10 +431,12 @@ abbrev pub stored_code : Source → ℕ → List Insn → List Insn → List Ins
 stored_code Computed d code rest = code ++ (keep_code (number_place d) ∷ rest)
 stored_code x d code rest = place_code (number_place d) x ++ rest
 
--- a let at depth d, and what follows: a count stays where it was counted
+-- a let at depth d, and what follows: a tally stays where it was made
 abbrev pub let_code : Term → Sizes → List ℕ → ℕ → List Insn → List Insn
 let_code (Count' p t) z J d rest =
-    counted_code d z.nodes (λ j. term_code t z (J ++ j ∷ []) (d + 1) (count_test d)) ++ rest
+    tallied_code HowMany d z.nodes (λ j. term_code t z (J ++ j ∷ []) (d + 1) (tally_test HowMany d)) ++ rest
+let_code (Least' p t) z J d rest =
+    tallied_code LeastMessage d z.nodes (λ j. term_code t z (J ++ j ∷ []) (d + 1) (tally_test LeastMessage d)) ++ rest
 let_code e z J d rest = stored_code (term_source e z J) d (term_code e z J d Value) rest
 
 abbrev pub is_nothing : Statement → Bool
@@ -425,8 +456,8 @@ block_code (SendAll e) z J d = send_all_code (term_source e z J) d z.nodes (term
 block_code (SendTo e k) z J d =
     if is_constant k then send_to_constant_code (term_source e z J) (constant_number k z J) z.nodes
     (term_code e z J d Value)
-    else term_code e z J d Value
-    ++ (keep_code (number_place d) ∷ (term_code k z J (d + 1) Value ++ send_to_code d z.nodes))
+    else send_to_code (term_source e z J) d z.nodes (term_code e z J d Value)
+    (term_code k z J (depth_behind (is_operand e) d) Value)
 
 abbrev pub head_code : List Insn
 head_code = Alu Mov W64 R6 (Reg R1) ∷ []

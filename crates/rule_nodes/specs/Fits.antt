@@ -7,14 +7,14 @@ use Rattle.rule_syntax.specs.declared.syntax.Target.TheVariants.{ToLocal, ToWord
 use Rattle.rule_syntax.specs.declared.syntax.Assignment.{Assignment}
 use Rattle.rule_syntax.specs.declared.syntax.Assignment.TheVariants.{One, Also'}
 use Rattle.rule_syntax.specs.declared.syntax.Term.{Term}
-use Rattle.rule_syntax.specs.declared.syntax.Term.TheVariants.{Number, Nodes, Faults, Modulus, Me, Coin, LoopNode, Local, Word, Message', Binary', Logical', Not', Choice', Count'}
+use Rattle.rule_syntax.specs.declared.syntax.Term.TheVariants.{Number, Nodes, Faults, Modulus, Me, Coin, LoopNode, Local, Word, Message', Binary', Logical', Not', Choice', Count', Least'}
 use Rattle.rule_syntax.specs.declared.syntax.Statement.{Statement}
 use Rattle.rule_syntax.specs.declared.syntax.Statement.TheVariants.{Nothing, Then', Let', Assign, If', For', SendAll, SendTo}
 use Rattle.rule_nodes.specs.declared.numbers.TheConstants.{PLACES}
 use Rattle.rule_nodes.specs.Operands.{is_constant, is_operand, is_steady, depth_behind}
 
 -- true: no place is needed; false: depth d has a free place. Two computed sides need one for the left number, as does a
--- computed number that is sent to all, or assigned with others, and a number that is sent to a node that is no constant
+-- computed number that is sent to all, or assigned with others, or sent to a node that is no constant
 abbrev pub HasPlace : Bool → ℕ → Type 0
 HasPlace true d = Unit {0}
 HasPlace false d = d < PLACES
@@ -38,6 +38,7 @@ Fits (Logical' c p a q b) z loops lets d = Fits a z loops lets d × Fits b z loo
 Fits (Not' p a) z loops lets d = Fits a z loops lets d
 Fits (Choice' p t q a r b) z loops lets d = Fits t z loops lets d × Fits a z loops lets d × Fits b z loops lets d
 Fits (Count' p t) z loops lets d = (d < PLACES) × Fits t z (loops + 1) lets (d + 1)
+Fits (Least' p t) z loops lets d = (d < PLACES) × Fits t z (loops + 1) lets (d + 1)
 
 abbrev pub TargetFits : Target → ℕ → ℕ → Type 0
 TargetFits (ToLocal k) memory lets = k < lets
@@ -59,4 +60,5 @@ BlockFits (If' t p a q b) z loops d = Fits t z loops d d × BlockFits a z loops 
 BlockFits (For' p body) z loops d = BlockFits body z (loops + 1) d
 BlockFits (SendAll e) z loops d = HasPlace (is_operand e) d × Fits e z loops d d
 BlockFits (SendTo e k) z loops d =
-    HasPlace (is_constant k) d × Fits e z loops d d × Fits k z loops d (depth_behind (is_constant k) d)
+    HasPlace (is_constant k || is_operand e) d × Fits e z loops d d
+    × Fits k z loops d (depth_behind (is_constant k || is_operand e) d)

@@ -1,6 +1,6 @@
 -- What a rule means, with nothing of programs: from a node's memory, messages, coin and number, the memory that it
 -- leaves and the messages that it sends.
-use Rattle.std.specs.Prelude.{ℕ, zero, suc, ◌+◌, ◌-◌, ◌*◌, ◌/◌, ◌%◌, ◌^◌, ◌==◌, nat_lt, nat_le, not, ◌&&◌, ◌||◌, Bool, if◌then◌else◌, List, [], ◌∷◌, ◌++◌, slice_index, slice_set}
+use Rattle.std.specs.Prelude.{ℕ, zero, suc, ◌+◌, ◌-◌, ◌*◌, ◌/◌, ◌%◌, ◌^◌, ◌==◌, min, nat_lt, nat_le, not, ◌&&◌, ◌||◌, Bool, if◌then◌else◌, List, [], ◌∷◌, ◌++◌, slice_index, slice_set}
 use Rattle.std.specs.Ordering.{nat_cmp}
 use Rattle.std.specs.FinMap.{FinMap, insert, empty}
 use Rattle.node_env.specs.declared.env.TheConstants.{NO_MAIL}
@@ -19,7 +19,7 @@ use Rattle.rule_syntax.specs.declared.syntax.Target.TheVariants.{ToLocal, ToWord
 use Rattle.rule_syntax.specs.declared.syntax.Assignment.{Assignment}
 use Rattle.rule_syntax.specs.declared.syntax.Assignment.TheVariants.{One, Also'}
 use Rattle.rule_syntax.specs.declared.syntax.Term.{Term}
-use Rattle.rule_syntax.specs.declared.syntax.Term.TheVariants.{Number, Nodes, Faults, Modulus, Me, Coin, LoopNode, Local, Word, Message', Binary', Logical', Not', Choice', Count'}
+use Rattle.rule_syntax.specs.declared.syntax.Term.TheVariants.{Number, Nodes, Faults, Modulus, Me, Coin, LoopNode, Local, Word, Message', Binary', Logical', Not', Choice', Count', Least'}
 use Rattle.rule_syntax.specs.declared.syntax.Statement.{Statement}
 use Rattle.rule_syntax.specs.declared.syntax.Statement.TheVariants.{Nothing, Then', Let', Assign, If', For', SendAll, SendTo}
 
@@ -67,6 +67,12 @@ abbrev pub count_below : ℕ → (ℕ → ℕ) → ℕ
 count_below zero holds = 0
 count_below (suc n) holds = count_below n holds + bit_of (truth (holds n))
 
+-- the least of the messages of the nodes below n for which it holds; NO_MAIL if there is none
+abbrev pub least_below : ℕ → (ℕ → ℕ) → (ℕ → ℕ) → ℕ
+least_below zero holds message = NO_MAIL
+least_below (suc n) holds message =
+    if truth (holds n) then min (message n) (least_below n holds message) else least_below n holds message
+
 -- ---- the memory and the messages
 
 -- the bytes 4k to 4k + 3, the lowest first
@@ -103,6 +109,8 @@ value (Logical' c p a q b) z env J u = bit_of (combine c (truth (value a z env J
 value (Not' p a) z env J u = bit_of (not (truth (value a z env J u)))
 value (Choice' p t q a r b) z env J u = if truth (value t z env J u) then value a z env J u else value b z env J u
 value (Count' p t) z env J u = count_below z.nodes (λ j. value t z env (J ++ j ∷ []) u)
+value (Least' p t) z env J u =
+    least_below z.nodes (λ j. value t z env (J ++ j ∷ []) u) (λ j. message_from z env j)
 
 -- ---- statements
 

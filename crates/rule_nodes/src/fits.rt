@@ -108,7 +108,7 @@ fn term_fits(
             term_fits(a, sizes, loops, lets, depth)?;
             term_fits(b, sizes, loops, lets, depth)
         }
-        Term::Count(c) => {
+        Term::Count(c) | Term::Least(c) => {
             needs_less(depth, PLACES)?;
             let inner = one_more(loops)?;
             term_fits(c, sizes, inner, lets, depth + 1)
@@ -186,10 +186,10 @@ pub fn block_fits(
             term_fits(e, sizes, loops, depth, depth)
         }
         Statement::SendTo(e, k) => {
-            let constant = is_constant_of(k);
-            needs_place(constant, depth)?;
+            let simple = is_constant_of(k) || is_operand_of(e);
+            needs_place(simple, depth)?;
             term_fits(e, sizes, loops, depth, depth)?;
-            term_fits(k, sizes, loops, depth, depth_behind_of(constant, depth))
+            term_fits(k, sizes, loops, depth, depth_behind_of(simple, depth))
         }
     }
 }

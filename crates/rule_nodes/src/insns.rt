@@ -2,7 +2,7 @@
 ghost use Rattle.std.specs.Prelude.{◌≡◌, ◌≤◌, ◌<◌, ◌+◌, ◌-◌, ◌*◌, min, pos, negsuc, length, IsTrue, ◌↔◌};
 ghost use Rattle.bpf_insn.specs.declared.forms.Reg.TheVariants.{R1};
 ghost use Rattle.bpf_insn.specs.declared.forms.Insn.TheVariants as i;
-ghost use Rattle.rule_nodes.specs.Code.{number_place, fetch_code, keep_code, clear_code, place_operand, set_number, copy, alu_op_of, cond_of, opposite, mirror, jump_on, jump_by, jump_register, jump_at, set_node};
+ghost use Rattle.rule_nodes.specs.Code.{number_place, fetch_code, keep_code, start_code, place_operand, set_number, copy, alu_op_of, cond_of, opposite, mirror, jump_on, jump_by, jump_register, jump_at, set_node};
 
 use crate::numbers::{PLACES, Place};
 use bpf_insn::{AluOp, Cond, Insn, MAX_SLOTS, Operand, Reg, Size, Width};
@@ -90,17 +90,17 @@ pub fn keep_of(place: Place) -> Insn
     }
 }
 
-/// Returns the instruction that puts 0 into a place.
-pub fn clear_of(place: Place) -> Insn
-    ensures { result ≡ clear_code place }
+/// Returns the instruction that puts a number of 32 bits into a place.
+pub fn start_of(place: Place, v: u32) -> Insn
+    ensures { result ≡ start_code place v }
 {
     match place {
-        Place::InRegister(register) => set_number_of(register, 0),
+        Place::InRegister(register) => set_number_of(register, v),
         Place::OnStack(off) => Insn::StoreImm {
             size: Size::W,
             base: Reg::R10,
             off,
-            imm: 0,
+            imm: v.cast_signed(),
         },
     }
 }

@@ -27,6 +27,7 @@ mod operands;
 mod owners;
 mod parts;
 mod statements;
+mod tallies;
 mod terms;
 
 pub use compile::compile_rule;

@@ -27,3 +27,10 @@ pub enum Source {
     FromWord(u32),
     Computed,
 }
+
+/// What is found over the nodes for which a term holds: how many there are, or the least message from one of them.
+#[derive(Clone, Copy, Debug, PartialEq, Eq)]
+pub enum Tally {
+    HowMany,
+    LeastMessage,
+}

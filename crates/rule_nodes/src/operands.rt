@@ -147,7 +147,7 @@ pub fn operand_of(source: Source) -> Operand
 }
 
 /// Returns the code, with the load of a place that is an operand and not in a register.
-fn with_place(code: Vec<Insn>, place: Place) -> Result<Vec<Insn>, AllocError>
+pub fn with_place(code: Vec<Insn>, place: Place) -> Result<Vec<Insn>, AllocError>
     ensures { IfOk result (λ c. c.items ≡ code.items ++ load_place place) }
 {
     match place {

@@ -1,22 +1,19 @@
 //! How the code of a term or a statement is put together of the code of its parts.
 ghost use Rattle.std.specs.Prelude.{◌≡◌, ◌≤◌, ◌+◌, ◌++◌, [], ◌∷◌, pos, not, false, length, if◌then◌else◌, IfOk, IfErr};
-ghost use Rattle.bpf_insn.specs.declared.forms.Width.TheVariants.{W32};
-ghost use Rattle.bpf_insn.specs.declared.forms.AluOp.TheVariants.{Add};
 ghost use Rattle.bpf_insn.specs.declared.forms.Reg.TheVariants.{R0};
-ghost use Rattle.bpf_insn.specs.declared.forms.Operand.TheVariants as operand;
 ghost use Rattle.bpf_insn.specs.declared.forms.Insn.TheVariants as i;
 ghost use Rattle.rule_nodes.specs.declared.numbers.Purpose.TheVariants.{Jump};
 ghost use Rattle.rule_nodes.specs.declared.numbers.Source.TheVariants.{Constant};
-ghost use Rattle.rule_nodes.specs.Code.{fetch_code, clear_code, increment_code, when_of, far_of, beyond_purpose, behind_test, by_value, two_code, message_code, message_by, decides, both_far, count_test};
+ghost use Rattle.rule_nodes.specs.Code.{when_of, far_of, beyond_purpose, behind_test, by_value, two_code, message_code, message_by, decides, both_far};
 ghost use Rattle.rule_nodes.specs.Refusals.{IsUnmade};
 
 use crate::errors::CompileError;
 use crate::insns::{
-    clear_of, copy_of, fetch_of, jump_at_of, jump_on_of, keep_of, place_of, set_node_of,
-    set_number_of, skip_of,
+    copy_of, fetch_of, jump_at_of, jump_on_of, keep_of, place_of, set_node_of, set_number_of,
+    skip_of,
 };
-use crate::numbers::{Place, Purpose, Source};
-use bpf_insn::{AluOp, Insn, MAX_SLOTS, Operand, Reg, Width};
+use crate::numbers::{Purpose, Source};
+use bpf_insn::{Insn, MAX_SLOTS, Reg};
 use node_env::NO_MAIL;
 use rule_syntax::{Comparison, Connective};
 use std::alloc::{AllocError, Global};
@@ -217,7 +214,7 @@ pub fn chosen(test: Vec<Insn>, first: &[Insn], second: &[Insn]) -> Result<Vec<In
     joined(skipped, second)
 }
 
-// ---- messages and counts
+// ---- messages
 
 /// Returns the code that asks for the last message from the node in r0.
 fn message_of(nodes: u32) -> [Insn; 5]
@@ -270,59 +267,4 @@ pub fn within(alloc: Global, loops: &[u32], node: u32) -> Result<Vec<u32>, Alloc
     inner.extend_from_slice(loops)?;
     inner.extend_from_slice(&[node])?;
     Ok(inner)
-}
-
-/// Returns the instruction that adds 1 in a register.
-fn add_one(register: Reg) -> Insn
-    ensures { result ≡ i.Alu Add W32 register (operand.Imm (pos 1)) }
-{
-    Insn::Alu {
-        op: AluOp::Add,
-        width: Width::W32,
-        dst: register,
-        src: Operand::Imm(1),
-    }
-}
-
-/// Returns the jump of a count's test: over the code that adds 1 in the place of a depth.
-pub fn count_test_of(depth: u32) -> Purpose
-    ensures { result ≡ count_test depth }
-{
-    match place_of(depth) {
-        Place::InRegister(_) => Purpose::Jump(false, 1),
-        Place::OnStack(_) => Purpose::Jump(false, 3),
-    }
-}
-
-/// Appends the code that adds 1 in a place.
-fn incremented(code: Vec<Insn>, place: Place) -> Result<Vec<Insn>, AllocError>
-    ensures { IfOk result (λ c. c.items ≡ code.items ++ increment_code place) }
-{
-    match place {
-        Place::InRegister(register) => joined(code, &[add_one(register)]),
-        Place::OnStack(_) => {
-            joined(
-                code,
-                &[fetch_of(Reg::R0, place), add_one(Reg::R0), keep_of(place)],
-            )
-        }
-    }
-}
-
-/// Appends one more test, which adds 1 in a place if it doesn't jump.
-pub fn counted(counts: Vec<Insn>, test: &[Insn], place: Place) -> Result<Vec<Insn>, AllocError>
-    ensures { IfOk result (λ c. c.items ≡ counts.items ++ (test.now ++ increment_code place)) }
-{
-    let tested = joined(counts, test)?;
-    let all = incremented(tested, place)?;
-    Ok(all)
-}
-
-/// Returns the code that counts in a place, from 0 on, and puts the count into r0.
-pub fn count_of(alloc: Global, place: Place, counts: &[Insn]) -> Result<Vec<Insn>, AllocError>
-    ensures { IfOk result (λ c. c.items ≡ clear_code place ∷ (counts.now ++ fetch_code R0 place ∷ [])) }
-{
-    let head = single(alloc, clear_of(place))?;
-    let all = joined(head, counts)?;
-    joined(all, &[fetch_of(Reg::R0, place)])
 }

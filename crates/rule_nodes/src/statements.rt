@@ -6,14 +6,16 @@ ghost use Rattle.bpf_insn.specs.declared.forms.Insn.TheVariants as i;
 ghost use Rattle.rule_syntax.specs.declared.syntax.Statement.TheVariants.{SendAll, SendTo};
 ghost use Rattle.rule_nodes.specs.Operands.{term_source, IsSourceWithin};
 ghost use Rattle.rule_nodes.specs.Fits.{Fits, BlockFits};
-ghost use Rattle.rule_nodes.specs.Code.{number_place, keep_code, set_node, term_code, stored_code, let_code, send_codes, send_all_code, passed_code, send_to_constant_code, send_to_code, is_nothing, block_code};
+ghost use Rattle.rule_nodes.specs.Code.{number_place, keep_code, set_node, term_code, stored_code, let_code, send_codes, send_all_code, passed_code, send_to_constant_code, receiver_code, send_to_code, is_nothing, block_code};
 ghost use Rattle.rule_nodes.specs.Refusals.{IsUnmade};
 
 use crate::assignments::{assignment, placed_of};
 use crate::errors::CompileError;
-use crate::insns::{copy_of, fetch_of, jump_at_of, keep_of, place_of, set_node_of};
+use crate::insns::{copy_of, jump_at_of, keep_of, place_of, set_node_of};
 use crate::numbers::{PLACES, Purpose, Source};
-use crate::operands::{constant_of, get_of, is_constant_of, source};
+use crate::operands::{
+    constant_of, depth_behind_of, get_of, is_constant_of, is_operand_of, source,
+};
 use crate::parts::{if_of, if_test, joined, short, within};
 use crate::terms::term;
 use bpf_insn::{Insn, MAX_SLOTS, Reg};
@@ -42,15 +44,16 @@ fn sends_of(alloc: Global, source: Source, nodes: u32) -> Result<Vec<Insn>, Allo
     Ok(sends)
 }
 
-/// Returns the code that sends the number in a place to the node in r0.
-fn send_to_of(depth: u32, nodes: u32) -> [Insn; 4]
-    requires { nodes ≤ 64 }
-    ensures { result ≡ send_to_code depth nodes }
+/// Returns the code that sends a found number to the node in r0.
+fn receiver_of(source: Source, nodes: u32) -> [Insn; 4]
+    requires few { nodes ≤ 64 }
+    requires within { IsSourceWithin source 256 }
+    ensures { result ≡ receiver_code source nodes }
 {
     [
         jump_at_of(Comparison::AtLeast, nodes, 3),
         copy_of(Reg::R1, Reg::R0),
-        fetch_of(Reg::R2, place_of(depth)),
+        get_of(Reg::R2, source),
         Insn::Call { id: 3 },
     ]
 }
@@ -91,7 +94,7 @@ fn without_last(mut code: Vec<Insn>) -> Vec<Insn>
     code
 }
 
-/// Returns the code of a let and of what follows. A count stays where it was counted.
+/// Returns the code of a let and of what follows. A count and a least message stay where they were made.
 pub fn let_of(
     alloc: Global,
     e: &Term,
@@ -106,7 +109,7 @@ pub fn let_of(
     ensures { IfOk result (λ c. c.items ≡ let_code e.now sizes loops.now depth rest.now) }
 {
     match e {
-        Term::Count(_) => joined(without_last(code), rest),
+        Term::Count(_) | Term::Least(_) => joined(without_last(code), rest),
         _ => stored_from(alloc, source(e, sizes, loops), depth, code, rest),
     }
 }
@@ -203,6 +206,29 @@ fn send_to_constant(
     short(passed(alloc, source(e, sizes, loops), node, value)?)
 }
 
+/// Returns the code that sends a number, found or computed by the code, to the node that the receiver's code computes.
+fn send_to_of(
+    source: Source,
+    depth: u32,
+    nodes: u32,
+    code: Vec<Insn>,
+    receiver: Vec<Insn>,
+) -> Result<Vec<Insn>, AllocError>
+    requires few { nodes ≤ 64 }
+    requires within { IsSourceWithin source 256 }
+    ensures { IfOk result (λ c. c.items ≡ send_to_code source depth nodes code.items receiver.items) }
+{
+    match source {
+        Source::Computed => {
+            let send = joined(receiver, &receiver_of(Source::FromLocal(depth), nodes))?;
+            stored(code, depth, &send)
+        }
+        Source::Constant(_) => joined(receiver, &receiver_of(source, nodes)),
+        Source::FromLocal(_) => joined(receiver, &receiver_of(source, nodes)),
+        Source::FromWord(_) => joined(receiver, &receiver_of(source, nodes)),
+    }
+}
+
 fn send_to(
     alloc: Global,
     e: &Term,
@@ -223,10 +249,11 @@ fn send_to(
     if is_constant_of(k) {
         return send_to_constant(alloc, e, constant_of(k, sizes, loops), sizes, loops, depth);
     }
-    let receiver = term(alloc, k, sizes, loops, depth, depth + 1, Purpose::Value)?;
-    let send = joined(receiver, &send_to_of(depth, sizes.nodes))?;
+    let deep = depth_behind_of(is_operand_of(e), depth);
+    let receiver = term(alloc, k, sizes, loops, depth, deep, Purpose::Value)?;
     let value = term(alloc, e, sizes, loops, depth, depth, Purpose::Value)?;
-    short(stored(value, depth, &send)?)
+    let found = source(e, sizes, loops);
+    short(send_to_of(found, depth, sizes.nodes, value, receiver)?)
 }
 
 /// Returns whether a statement does nothing.

@@ -1,22 +1,23 @@
 //! The code of terms.
-ghost use Rattle.std.specs.Prelude.{◌≡◌, ◌≤◌, ◌+◌, ◌*◌, [], ◌∷◌, pos, length, IfOk, IfErr};
+ghost use Rattle.std.specs.Prelude.{◌≡◌, ◌≤◌, ◌<◌, ◌+◌, ◌*◌, ◌++◌, [], ◌∷◌, pos, length, IfOk, IfErr};
 ghost use Rattle.bpf_insn.specs.declared.forms.Reg.TheVariants.{R0, R6};
 ghost use Rattle.bpf_insn.specs.declared.forms.Size.TheVariants as size;
 ghost use Rattle.bpf_insn.specs.declared.forms.Insn.TheVariants as i;
 ghost use Rattle.rule_nodes.specs.Operands.{term_source};
 ghost use Rattle.rule_nodes.specs.Fits.{Fits};
-ghost use Rattle.rule_nodes.specs.Code.{set_number, far_of, beyond_purpose, by_value, message_by, term_code};
+ghost use Rattle.rule_nodes.specs.Code.{set_number, far_of, beyond_purpose, by_value, message_by, tally_code, tally_test, term_code};
 ghost use Rattle.rule_nodes.specs.Refusals.{IsUnmade};
 
 use crate::binary::binary_of;
 use crate::errors::CompileError;
 use crate::insns::{fetch_of, place_of, set_number_of, word_offset};
-use crate::numbers::{PLACES, Purpose};
+use crate::numbers::{PLACES, Purpose, Tally};
 use crate::operands::{beside_operand, depth_behind_of, source};
 use crate::parts::{
-    behind_test_of, by_value_of, chosen, count_of, count_test_of, counted, first_test, joined,
-    message_by_of, near, opposite_test, short, single, skip_test, test_of, within,
+    behind_test_of, by_value_of, chosen, first_test, joined, message_by_of, near, opposite_test,
+    short, single, skip_test, test_of, within,
 };
+use crate::tallies::{tallied, tally_of, tally_test_of};
 use bpf_insn::{Insn, MAX_SLOTS, Reg, Size};
 use rule_syntax::{Sizes, Term};
 use std::alloc::{AllocError, Global};
@@ -69,6 +70,7 @@ fn message(
 }
 
 /// Returns the code of a term at a depth, with `lets` lets in scope. Fails if it is longer than a program.
+#[cycle(terms)]
 pub fn term(
     alloc: Global,
     t: &Term,
@@ -126,15 +128,44 @@ pub fn term(
             short(by_value_of(chosen(test, &first, &second)?, purpose)?)
         }
         Term::Count(c) => {
-            let place = place_of(depth);
-            let skip = count_test_of(depth);
-            let mut counts = Vec::new(alloc);
-            for node in 0..sizes.nodes {
-                let inner = within(alloc, loops, node)?;
-                let test = term(alloc, c, sizes, &inner, lets, depth + 1, skip)?;
-                counts = short(counted(counts, &test, place)?)?;
-            }
-            short(by_value_of(count_of(alloc, place, &counts)?, purpose)?)
+            let code = tally_over(alloc, Tally::HowMany, c, sizes, loops, lets, depth)?;
+            short(by_value_of(code, purpose)?)
+        }
+        Term::Least(c) => {
+            let code = tally_over(alloc, Tally::LeastMessage, c, sizes, loops, lets, depth)?;
+            short(by_value_of(code, purpose)?)
         }
     }
+}
+
+/// Returns the code of a tally over the nodes at which a term holds, at a depth.
+#[cycle(terms)]
+fn tally_over(
+    alloc: Global,
+    kind: Tally,
+    c: &Term,
+    sizes: Sizes,
+    loops: &[u32],
+    lets: u32,
+    depth: u32,
+) -> Result<Vec<Insn>, CompileError>
+    requires some { 1 ≤ sizes.nodes }
+    requires few { sizes.nodes ≤ 64 }
+    requires memory { sizes.memory ≤ 256 }
+    requires deep { depth < PLACES }
+    requires fits { Fits c.now sizes (length loops.now + 1) lets (depth + 1) }
+    ensures code { IfOk result (λ made. made.items ≡ tally_code kind depth sizes.nodes
+        (λ j. term_code c.now sizes (loops.now ++ j ∷ []) (depth + 1) (tally_test kind depth))) }
+    ensures long { IfErr result (IsUnmade (length (tally_code kind depth sizes.nodes
+        (λ j. term_code c.now sizes (loops.now ++ j ∷ []) (depth + 1) (tally_test kind depth))))) }
+{
+    let place = place_of(depth);
+    let skip = tally_test_of(kind, depth);
+    let mut codes = Vec::new(alloc);
+    for node in 0..sizes.nodes {
+        let inner = within(alloc, loops, node)?;
+        let test = term(alloc, c, sizes, &inner, lets, depth + 1, skip)?;
+        codes = short(tallied(codes, &test, kind, place, node)?)?;
+    }
+    Ok(tally_of(alloc, kind, place, &codes)?)
 }

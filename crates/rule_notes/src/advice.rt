@@ -8,7 +8,6 @@ use crate::near::nearest;
 use crate::place::{Place, place_in};
 use crate::reading::{Reading, reading_at};
 use crate::shown::shown;
-use crate::walk::Next;
 use rule_text::RuleError;
 use std::alloc::{AllocError, Global};
 
@@ -64,14 +63,14 @@ fn of_unknown(alloc: Global, reading: &mut Reading<'_>) -> Result<String, AllocE
 fn other_name(maker: Maker, before: Maker) -> &'static str {
     match (maker, before) {
         (Maker::Let, Maker::Let | Maker::State) => "without \"let\" the line sets it",
-        (Maker::Let | Maker::State | Maker::For | Maker::Count, _) => "choose another name",
+        (Maker::Let | Maker::State | Maker::For | Maker::Aggregate, _) => "choose another name",
     }
 }
 
 fn of_twice(alloc: Global, reading: &Reading<'_>) -> Result<String, AllocError> {
     let name = shown(alloc, reading.here)?;
     let name = name.as_str();
-    let Next::Name(maker) = reading.walk.next else {
+    let Some(maker) = reading.walk.maker() else {
         return format!(in alloc; "one statement sets {name} once");
     };
     match reading.declared() {
@@ -84,7 +83,7 @@ fn of_twice(alloc: Global, reading: &Reading<'_>) -> Result<String, AllocError> 
 }
 
 fn of_depth(reading: &Reading<'_>) -> &'static str {
-    if let Next::Name(_) = reading.walk.next {
+    if reading.walk.maker().is_some() {
         return "at most 200 names are in scope: end a block, or use a name again";
     }
     if reading.begins_line {

@@ -18,7 +18,7 @@ fn may_follow(next: Next, part: Option<Part>) -> &'static str {
         Next::Becomes => "\"=\"",
         Next::Target(_) => "a name or \"clock\"",
         Next::MoreTargets(_) => "\"=\" or \",\"",
-        Next::BlockColon | Next::CountColon => "\":\"",
+        Next::BlockColon | Next::AggregateColon => "\":\"",
         Next::Square => "\"[\"",
         Next::Operand(_) => "a term, such as a number or a name",
         Next::AfterTerm => after_term(part),
@@ -52,7 +52,7 @@ fn fix(next: Next, part: Option<Part>, compared: bool, text: &str) -> &'static s
         | Next::Target(_)
         | Next::MoreTargets(_)
         | Next::BlockColon
-        | Next::CountColon
+        | Next::AggregateColon
         | Next::Square
         | Next::Unknown => "",
     }
@@ -130,10 +130,14 @@ fn open_bracket(alloc: Global, reading: &Reading<'_>) -> Result<String, AllocErr
     }
 }
 
-/// Returns what is there: a token, or the end of the text.
-fn found(alloc: Global, here: &str) -> Result<String, AllocError> {
-    if here.len() == 0 {
+/// Returns what is there: a token, or the end of a line or of the text.
+fn found(alloc: Global, reading: &Reading<'_>) -> Result<String, AllocError> {
+    let here = reading.here;
+    if here.len() == 0 && reading.is_text_end {
         return String::from_str(alloc, "the end of the text");
+    }
+    if here.len() == 0 {
+        return String::from_str(alloc, "the end of the line");
     }
     let words = shown(alloc, here)?;
     let words = words.as_str();
@@ -148,7 +152,7 @@ fn unexpected(alloc: Global, reading: &Reading<'_>) -> Result<String, AllocError
     if reading.begins_line {
         return Ok(String::new(alloc));
     }
-    let found = found(alloc, reading.here)?;
+    let found = found(alloc, reading)?;
     let found = found.as_str();
     format!(in alloc; "unexpected {found}")
 }
@@ -177,7 +181,7 @@ fn of_token(alloc: Global, reading: &Reading<'_>) -> Result<String, AllocError> 
     if expected.len() == 0 {
         return unexpected(alloc, reading);
     }
-    let found = found(alloc, reading.here)?;
+    let found = found(alloc, reading)?;
     let hint = hint(alloc, reading)?;
     let found = found.as_str();
     let hint = hint.as_str();
@@ -186,17 +190,9 @@ fn of_token(alloc: Global, reading: &Reading<'_>) -> Result<String, AllocError> 
 
 /// Returns what could be at the place of a token, and what is there.
 pub(crate) fn of_expected(alloc: Global, reading: &mut Reading<'_>) -> Result<String, AllocError> {
-    if reading.is_shallow() {
+    if reading.is_before_block() {
         let column = reading.block_column();
         return format!(in alloc; "expected a line deeper than column {column}");
-    }
-    if reading.is_past_line() && !reading.walk.may_end() {
-        let expected = may_follow(reading.walk.next, reading.walk.part());
-        if expected.len() == 0 {
-            return unexpected(alloc, reading);
-        }
-        let line = reading.last_line;
-        return format!(in alloc; "expected {expected} at the end of line {line}");
     }
     reading.begin()?;
     of_token(alloc, reading)

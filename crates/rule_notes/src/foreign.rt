@@ -3,7 +3,7 @@
 use crate::reading::Reading;
 use crate::shown::written_for;
 use crate::token::first_of;
-use crate::walk::{Next, Part};
+use crate::walk::{Grade, Next, Part};
 use std::alloc::{AllocError, Global};
 use std::str;
 
@@ -64,6 +64,36 @@ fn choice(alloc: Global, name: &str, rest: &str) -> Result<String, AllocError> {
     )
 }
 
+/// Returns the choice that is meant by a call of `abs`, with which the rest of a line begins.
+fn distance(alloc: Global, rest: &str) -> Result<String, AllocError> {
+    let Some((a, b)) = two_operands(rest) else {
+        return String::from_str(
+            alloc,
+            "there is no abs, and no number is below 0: write \"a - b if a > b else b - a\"",
+        );
+    };
+    format!(in alloc;
+        "write \"({a} - {b} if {a} > {b} else {b} - {a})\" in place of \"abs({a} - {b})\""
+    )
+}
+
+/// Returns the two operands of the difference of which `abs` is called, if they have neither brackets nor blanks.
+fn two_operands(rest: &str) -> Option<(&str, &str)> {
+    let (inside, _) = rest.strip_prefix("abs(")?.split_once(')')?;
+    let (first, second) = inside.split_once('-')?;
+    let (first, second) = (first.trim(), second.trim());
+    if !is_single(first) || !is_single(second) {
+        return None;
+    }
+    Some((first, second))
+}
+
+fn is_single(term: &str) -> bool {
+    !term.is_empty()
+        && term.bytes().all(|byte| byte.is_ascii_alphanumeric()
+            || matches!(byte, b'_' | b'[' | b']'))
+}
+
 /// Returns the two terms of a call, if they have no brackets of their own.
 fn two_terms<'a>(name: &str, rest: &'a str) -> Option<(&'a str, &'a str)> {
     let inside = rest.strip_prefix(name)?.strip_prefix("(")?;
@@ -100,7 +130,35 @@ pub(crate) fn of_foreign_name(alloc: Global, reading: &Reading<'_>) -> Result<St
     if statement.len() > 0 {
         return String::from_str(alloc, statement);
     }
+    if name == "least" {
+        return String::from_str(alloc, of_least(reading.walk.next));
+    }
+    if name == "abs" {
+        return distance(alloc, reading.rest);
+    }
     choice(alloc, name, reading.rest)
+}
+
+/// Returns how `least` is the word of a term: nothing if no term can begin here.
+fn of_least(next: Next) -> &'static str {
+    match next {
+        Next::Operand(Grade::Whole) => {
+            "\"least j: t\" is the least message from a node j for which t holds"
+        }
+        Next::Operand(Grade::Inverse | Grade::Atom) => "put \"least\" in brackets, with its term",
+        Next::Statement
+        | Next::Block
+        | Next::Name(_)
+        | Next::MoreNames
+        | Next::Becomes
+        | Next::Target(_)
+        | Next::MoreTargets(_)
+        | Next::BlockColon
+        | Next::AggregateColon
+        | Next::Square
+        | Next::AfterTerm
+        | Next::Unknown => "",
+    }
 }
 
 /// Returns that a name is made where it is set: nothing if it isn't set here.
@@ -119,7 +177,7 @@ pub(crate) fn of_foreign_sign(alloc: Global, reading: &Reading<'_>) -> Result<St
         Next::Statement | Next::Block => of_beginning(alloc, reading),
         Next::MoreTargets(_) => of_target(alloc, reading),
         Next::Becomes => of_becomes(alloc, reading),
-        Next::BlockColon | Next::CountColon => of_colon(alloc, reading),
+        Next::BlockColon | Next::AggregateColon => of_colon(alloc, reading),
         Next::Square => of_square(alloc, reading),
         Next::Operand(_) => of_operand(alloc, reading),
         Next::AfterTerm => of_end(alloc, reading),

@@ -6,7 +6,8 @@ pub(crate) enum Maker {
     State,
     Let,
     For,
-    Count,
+    /// `count` or `least`.
+    Aggregate,
 }
 
 impl Maker {
@@ -17,7 +18,7 @@ impl Maker {
             Maker::Let if is_inside => usize::MAX,
             Maker::Let => column,
             Maker::For => column.saturating_add(1),
-            Maker::Count => usize::MAX,
+            Maker::Aggregate => usize::MAX,
         }
     }
 
@@ -25,7 +26,7 @@ impl Maker {
     pub(crate) fn is_visible(self) -> bool {
         match self {
             Maker::Let => false,
-            Maker::State | Maker::For | Maker::Count => true,
+            Maker::State | Maker::For | Maker::Aggregate => true,
         }
     }
 }
@@ -38,7 +39,7 @@ pub(crate) struct Declared<'a> {
     pub(crate) maker: Maker,
     /// A line further left ends it.
     pub(crate) column: usize,
-    /// The number of parts around it, with fewer of which a name of `count` ends.
+    /// The number of parts around it, with fewer of which the name of an aggregate ends.
     pub(crate) depth: usize,
     pub(crate) is_visible: bool,
     pub(crate) is_ended: bool,
@@ -54,7 +55,7 @@ impl Declared<'_> {
 
     /// Ends a part: this many are left.
     pub(crate) fn leave(&mut self, depth: usize) {
-        if matches!(self.maker, Maker::Count) && depth < self.depth {
+        if matches!(self.maker, Maker::Aggregate) && depth < self.depth {
             self.is_ended = true;
         }
     }

@@ -3,20 +3,20 @@
 use crate::names::Maker;
 use crate::place::{Place, rest_of_line};
 use crate::token::tokens_of;
-use crate::walk::{Grade, Next, Part, Walk};
+use crate::walk::{Grade, Next, Walk};
 use std::alloc::{AllocError, Global};
 
 /// A token, and what is known before it.
 #[derive(Drop)]
 pub(crate) struct Reading<'a> {
     pub(crate) walk: Walk<'a>,
-    /// How the token is written: nothing at the end of the text.
+    /// How the token is written: nothing at the end of a line or of the text.
     pub(crate) here: &'a str,
     pub(crate) line: usize,
     pub(crate) column: usize,
     pub(crate) begins_line: bool,
-    /// The line of the token before it.
-    pub(crate) last_line: usize,
+    /// Whether no token is there or later.
+    pub(crate) is_text_end: bool,
     /// How the token before it is written: nothing at the beginning of the text.
     pub(crate) last: &'a str,
     /// The line from the token on, without its comment.
@@ -31,13 +31,14 @@ pub(crate) fn reading_at<'a>(
     column: usize,
 ) -> Result<Reading<'a>, AllocError> {
     let tokens = tokens_of(alloc, place.through)?;
+    let later = tokens_of(alloc, place.rest)?;
     let mut reading = Reading {
         walk: Walk::new(alloc),
         here: "",
         line,
         column,
         begins_line: false,
-        last_line: 0,
+        is_text_end: later.is_empty(),
         last: "",
         rest: rest_of_line(place),
     };
@@ -47,7 +48,6 @@ pub(crate) fn reading_at<'a>(
             reading.begins_line = token.begins_line;
         } else {
             reading.walk.read(*token)?;
-            reading.last_line = token.line;
             reading.last = token.text;
         }
     }
@@ -63,18 +63,9 @@ impl<'a> Reading<'a> {
         Ok(())
     }
 
-    /// Returns true if the token is on a line that should be deeper.
-    pub(crate) fn is_shallow(&self) -> bool {
-        self.begins_line
-            && matches!(self.walk.next, Next::Block)
-            && self.column <= self.block_column()
-    }
-
-    /// Returns true if the line of the token before has ended: the token begins a line, or the text ends on a later
-    /// one.
-    pub(crate) fn is_past_line(&self) -> bool {
-        let is_joined = self.walk.parts.iter().any(|part| is_bracket(*part));
-        self.begins_line || self.here.len() == 0 && self.last_line < self.line && !is_joined
+    /// Returns true if the next line has to be deeper.
+    pub(crate) fn is_before_block(&self) -> bool {
+        self.here.len() == 0 && !self.is_text_end && matches!(self.walk.next, Next::Block)
     }
 
     /// Returns the column of the last line before the token.
@@ -126,17 +117,10 @@ impl<'a> Reading<'a> {
     }
 }
 
-fn is_bracket(part: Part) -> bool {
-    match part {
-        Part::Round { .. } | Part::Square { .. } => true,
-        Part::Test | Part::Condition | Part::Sent | Part::Value(_) => false,
-    }
-}
-
 fn is_assignable(maker: Maker) -> bool {
     match maker {
         Maker::State | Maker::Let => true,
-        Maker::For | Maker::Count => false,
+        Maker::For | Maker::Aggregate => false,
     }
 }
 
@@ -146,7 +130,9 @@ fn words_at(next: Next) -> &'static [&'static str] {
         Next::Statement => &["clock", "let", "send", "for", "elif", "else", "state"],
         Next::Block => &["clock", "let", "send"],
         Next::Target(_) => &["clock"],
-        Next::Operand(Grade::Whole) => &["clock", "coin", "none", "mail", "count", "not"],
+        Next::Operand(Grade::Whole) => {
+            &["clock", "coin", "none", "mail", "count", "least", "not"]
+        }
         Next::Operand(Grade::Inverse) => &["clock", "coin", "none", "mail", "not"],
         Next::Operand(Grade::Atom) => &["clock", "coin", "none", "mail"],
         Next::Name(_)
@@ -154,7 +140,7 @@ fn words_at(next: Next) -> &'static [&'static str] {
         | Next::Becomes
         | Next::MoreTargets(_)
         | Next::BlockColon
-        | Next::CountColon
+        | Next::AggregateColon
         | Next::Square
         | Next::AfterTerm
         | Next::Unknown => &[],

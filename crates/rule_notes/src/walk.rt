@@ -8,7 +8,7 @@ use std::alloc::{AllocError, Global};
 /// The words that are terms by themselves.
 const LEAVES: [&str; 7] = ["n", "f", "M", "me", "coin", "none", "clock"];
 
-/// What can begin an operand: `not` no operand of arithmetic, and `count` only a whole term.
+/// What can begin an operand: `not` no operand of arithmetic, and `count` and `least` only a whole term.
 #[derive(Clone, Copy)]
 pub(crate) enum Grade {
     Whole,
@@ -33,7 +33,7 @@ pub(crate) enum Next {
     /// A comma or `=`, after this many targets.
     MoreTargets(usize),
     BlockColon,
-    CountColon,
+    AggregateColon,
     /// The bracket after `mail`.
     Square,
     Operand(Grade),
@@ -67,6 +67,8 @@ pub(crate) struct Walk<'a> {
     pub(crate) parts: Vec<Part>,
     /// Whether the term has its comparison.
     pub(crate) compared: bool,
+    /// Whether the term so far is `least`: a word if a name follows, and otherwise a name.
+    is_least: bool,
     pub(crate) names: Vec<Declared<'a>>,
     /// The columns of the lines.
     pub(crate) columns: Vec<usize>,
@@ -81,6 +83,7 @@ impl<'a> Walk<'a> {
             next: Next::Statement,
             parts: Vec::new(alloc),
             compared: false,
+            is_least: false,
             names: Vec::new(alloc),
             columns: Vec::new(alloc),
             is_inside: false,
@@ -90,6 +93,26 @@ impl<'a> Walk<'a> {
     /// Returns the innermost part.
     pub(crate) fn part(&self) -> Option<Part> {
         self.parts.last().copied()
+    }
+
+    /// Returns what makes a new name that can come next.
+    pub(crate) fn maker(&self) -> Option<Maker> {
+        match self.next {
+            Next::Name(maker) => Some(maker),
+            Next::AfterTerm if self.is_least => Some(Maker::Aggregate),
+            Next::Statement
+            | Next::Block
+            | Next::MoreNames
+            | Next::Becomes
+            | Next::Target(_)
+            | Next::MoreTargets(_)
+            | Next::BlockColon
+            | Next::AggregateColon
+            | Next::Square
+            | Next::Operand(_)
+            | Next::AfterTerm
+            | Next::Unknown => None,
+        }
     }
 
     /// Returns true if the line may end here.
@@ -102,7 +125,7 @@ impl<'a> Walk<'a> {
             | Next::Target(_)
             | Next::MoreTargets(_)
             | Next::BlockColon
-            | Next::CountColon
+            | Next::AggregateColon
             | Next::Square
             | Next::Operand(_)
             | Next::Unknown => false,
@@ -131,7 +154,12 @@ impl<'a> Walk<'a> {
         if token.begins_line {
             self.begin_line(token.column)?;
         }
+        let is_least = self.is_least;
+        self.is_least = matches!(self.next, Next::Operand(Grade::Whole)) && token.text == "least";
         self.next = match self.next {
+            Next::AfterTerm if is_least && is_name(token.text) => {
+                self.after_name(Maker::Aggregate, token)?
+            }
             Next::Statement => self.after_first(token.text)?,
             Next::Block => self.after_simple(token.text)?,
             Next::Name(maker) => self.after_name(maker, token)?,
@@ -140,7 +168,7 @@ impl<'a> Walk<'a> {
             Next::Target(count) => after_target(token.text, count),
             Next::MoreTargets(count) => self.after_targets(token.text, count)?,
             Next::BlockColon if token.text == ":" => self.into_block(),
-            Next::CountColon => on(token.text, ":", Next::Operand(Grade::Whole)),
+            Next::AggregateColon => on(token.text, ":", Next::Operand(Grade::Whole)),
             Next::Square if token.text == "[" => self.enter(Part::Square {
                 line: token.line,
                 compared: self.compared,
@@ -171,9 +199,9 @@ impl<'a> Walk<'a> {
     }
 
     fn after_name(&mut self, maker: Maker, token: Token<'a>) -> Result<Next, AllocError> {
-        let Kind::Name = kind_of(token.text) else {
+        if !is_name(token.text) {
             return Ok(Next::Unknown);
-        };
+        }
         let column = self.columns.last().copied().unwrap_or_default();
         self.names.push(Declared {
             name: token.text,
@@ -188,7 +216,7 @@ impl<'a> Walk<'a> {
             Maker::State => Ok(Next::MoreNames),
             Maker::Let => Ok(Next::Becomes),
             Maker::For => Ok(Next::BlockColon),
-            Maker::Count => Ok(Next::CountColon),
+            Maker::Aggregate => Ok(Next::AggregateColon),
         }
     }
 
@@ -208,7 +236,7 @@ impl<'a> Walk<'a> {
             }),
             "mail" => Ok(Next::Square),
             "not" if !matches!(grade, Grade::Atom) => Ok(Next::Operand(Grade::Inverse)),
-            "count" if matches!(grade, Grade::Whole) => Ok(Next::Name(Maker::Count)),
+            "count" if matches!(grade, Grade::Whole) => Ok(Next::Name(Maker::Aggregate)),
             text if is_operand(text) => Ok(Next::AfterTerm),
             _ => Ok(Next::Unknown),
         }
@@ -270,7 +298,7 @@ impl<'a> Walk<'a> {
         Ok(Next::Operand(Grade::Whole))
     }
 
-    /// Ends the innermost part, and the names of `count` in it.
+    /// Ends the innermost part, and the names of aggregates in it.
     fn leave(&mut self) {
         let _ = self.parts.pop();
         self.compared = false;
@@ -292,9 +320,12 @@ fn on(text: &str, wanted: &str, next: Next) -> Next {
     if text == wanted { next } else { Next::Unknown }
 }
 
+fn is_name(text: &str) -> bool {
+    matches!(kind_of(text), Kind::Name)
+}
+
 fn after_target(text: &str, before: usize) -> Next {
-    let is_target = text == "clock" || matches!(kind_of(text), Kind::Name);
-    if is_target {
+    if text == "clock" || is_name(text) {
         Next::MoreTargets(before.saturating_add(1))
     } else {
         Next::Unknown

@@ -13,7 +13,7 @@ use Rattle.rule_syntax.specs.declared.syntax.Target.TheVariants.{ToLocal, ToWord
 use Rattle.rule_syntax.specs.declared.syntax.Assignment.{Assignment}
 use Rattle.rule_syntax.specs.declared.syntax.Assignment.TheVariants.{One, Also'}
 use Rattle.rule_syntax.specs.declared.syntax.Term.{Term}
-use Rattle.rule_syntax.specs.declared.syntax.Term.TheVariants.{Number, Nodes, Faults, Modulus, Me, Coin, LoopNode, Local, Word, Message', Binary', Logical', Not', Choice', Count'}
+use Rattle.rule_syntax.specs.declared.syntax.Term.TheVariants.{Number, Nodes, Faults, Modulus, Me, Coin, LoopNode, Local, Word, Message', Binary', Logical', Not', Choice', Count', Least'}
 use Rattle.rule_syntax.specs.declared.syntax.Statement.{Statement}
 use Rattle.rule_syntax.specs.declared.syntax.Statement.TheVariants.{Nothing, Then', Let', Assign, If', For', SendAll, SendTo}
 use Rattle.rule_nodes.specs.Code.{opposite}
@@ -166,6 +166,10 @@ found_choice x y w = with_fresh x.facts w.next (λ r.
 abbrev pub counted : ℕ → Found
 counted k = with_fresh Always k (λ r. IsAtMost r NodeCount)
 
+-- of a least message nothing is said: no rule that has one is covered
+abbrev pub any_number : ℕ → Found
+any_number k = with_fresh Always k (λ r. Always)
+
 -- a term, where `around` is the node of the count around it
 abbrev pub found_term : Option Around → Term → Store → ℕ → Found
 found_term around (Number v) s k = as_is (Value (Constant v)) k
@@ -192,6 +196,7 @@ found_term around (Choice' p t q a r b) s k =
     let y = numbered (found_term around a s x.next) in
     found_choice x y (numbered (found_term around b s y.next))
 found_term around (Count' p t) s k = counted k
+found_term around (Least' p t) s k = any_number k
 
 -- ---- statements
 

@@ -4,7 +4,7 @@ use denote.RawPtr.{null_ptr}
 use Rattle.bpf_insn.specs.declared.forms.Insn.{Insn}
 use Rattle.rule_nodes.specs.Meaning.{apply_operator}
 use Rattle.rule_nodes.specs.Operands.{is_constant, is_fetched, is_local, is_operand, is_asked, is_steady, depth_behind, constant_number, fetched_source, term_source}
-use Rattle.rule_nodes.specs.Code.{number_place, keep_code, by_value, by_test, binary_code, choice_code, decides, both_code, message_by, count_code, counted_code, count_test, term_code, given_code, change_place, change_by, changing_insn, one_code, also_code, assignment_code, stored_code, send_all_code, send_to_constant_code, send_to_code, each_code, if_code, is_nothing, let_code, block_code, head_code, tail_code, rule_code}
+use Rattle.rule_nodes.specs.Code.{number_place, by_value, by_test, binary_code, choice_code, decides, both_code, message_by, tallied_code, tally_code, tally_test, term_code, given_code, change_place, change_by, changing_insn, one_code, also_code, assignment_code, stored_code, send_all_code, send_to_constant_code, send_to_code, each_code, if_code, is_nothing, let_code, block_code, head_code, tail_code, rule_code}
 use Rattle.rule_nodes.specs.Fits.{HasPlace, Fits, TargetFits, AssignmentFits, BlockFits}
 use Rattle.rule_syntax.specs.declared.syntax.Operator.{Operator}
 use Rattle.rule_syntax.specs.declared.syntax.Operator.TheVariants.{Compute, Compare}
@@ -15,13 +15,14 @@ use Rattle.rule_nodes.specs.declared.numbers.TheConstants.{PLACES}
 use Rattle.rule_nodes.specs.declared.numbers.Purpose.{Purpose}
 use Rattle.rule_nodes.specs.declared.numbers.Purpose.TheVariants.{Value, Jump}
 use Rattle.rule_nodes.specs.declared.numbers.Source.TheVariants.{Constant}
+use Rattle.rule_nodes.specs.declared.numbers.Tally.TheVariants.{HowMany, LeastMessage}
 use Rattle.rule_syntax.specs.declared.syntax.Assignment.{Assignment}
 use Rattle.rule_syntax.specs.declared.syntax.Assignment.TheVariants.{One, Also'}
 use Rattle.rule_syntax.specs.declared.syntax.Term.{Term}
-use Rattle.rule_syntax.specs.declared.syntax.Term.TheVariants.{Number, Nodes, Faults, Modulus, Me, Coin, LoopNode, Local, Word, Message', Binary', Logical', Not', Choice', Count'}
+use Rattle.rule_syntax.specs.declared.syntax.Term.TheVariants.{Number, Nodes, Faults, Modulus, Me, Coin, LoopNode, Local, Word, Message', Binary', Logical', Not', Choice', Count', Least'}
 use Rattle.rule_syntax.specs.declared.syntax.Statement.{Statement}
 use Rattle.rule_syntax.specs.declared.syntax.Statement.TheVariants.{Nothing, Then', Let', Assign, If', For', SendAll, SendTo}
-use Rattle.rule_text.specs.Forms.{TermForm, number, nodes, faults, modulus, me, coin, loop_node, local, word, message, binary, logical, inverse, choice, count, AssignmentForm, one, also, StatementForm, nothing, sequence, let_in, assign, branch, each, send_all, send_to, term_form, assignment_form, statement_form}
+use Rattle.rule_text.specs.Forms.{TermForm, number, nodes, faults, modulus, me, coin, loop_node, local, word, message, binary, logical, inverse, choice, count, least, AssignmentForm, one, also, StatementForm, nothing, sequence, let_in, assign, branch, each, send_all, send_to, term_form, assignment_form, statement_form}
 
 -- ---- a rule of each form, whose boxes lie nowhere, for an allocator g
 
@@ -44,6 +45,7 @@ term_of g (logical c a b) = Logical' c (nowhere g) (term_of g a) (nowhere g) (te
 term_of g (inverse a) = Not' (nowhere g) (term_of g a)
 term_of g (choice t a b) = Choice' (nowhere g) (term_of g t) (nowhere g) (term_of g a) (nowhere g) (term_of g b)
 term_of g (count t) = Count' (nowhere g) (term_of g t)
+term_of g (least t) = Least' (nowhere g) (term_of g t)
 
 abbrev assignment_of : Global → AssignmentForm → Assignment
 assignment_of g (one target e) = One target (term_of g e)
@@ -118,7 +120,10 @@ code_same g (Choice' p t q a r b) z J d purpose =
     (code_same g b z J d Value k))
 code_same g (Count' p t) z J d purpose =
     λ k. by_value purpose
-    (count_code d z.nodes (λ j. code_same g t z (J ++ j ∷ []) (d + 1) (count_test d) k))
+    (tally_code HowMany d z.nodes (λ j. code_same g t z (J ++ j ∷ []) (d + 1) (tally_test HowMany d) k))
+code_same g (Least' p t) z J d purpose =
+    λ k. by_value purpose
+    (tally_code LeastMessage d z.nodes (λ j. code_same g t z (J ++ j ∷ []) (d + 1) (tally_test LeastMessage d) k))
 code_same g Me z J d purpose = refl
 code_same g _ z J d purpose = refl
 
@@ -136,6 +141,7 @@ fits_same g (Not' p a) z loops lets d = fits_same g a z loops lets d
 fits_same g (Choice' p t q a r b) z loops lets d =
     λ k. fits_same g t z loops lets d k × fits_same g a z loops lets d k × fits_same g b z loops lets d k
 fits_same g (Count' p t) z loops lets d = λ k. (d < PLACES) × fits_same g t z (loops + 1) lets (d + 1) k
+fits_same g (Least' p t) z loops lets d = λ k. (d < PLACES) × fits_same g t z (loops + 1) lets (d + 1) k
 fits_same g Me z loops lets d = refl
 fits_same g _ z loops lets d = refl
 
@@ -197,7 +203,10 @@ nothing_same g _ = refl
 let_same : (g : Global) (e : Term) (z : Sizes) (J : List ℕ) (d : ℕ) (rest after : List Insn) → rest ≡ after
     → let_code e z J d rest ≡ let_code (lifted g e) z J d after
 let_same g (Count' p t) z J d rest after same =
-    λ k. counted_code d z.nodes (λ j. code_same g t z (J ++ j ∷ []) (d + 1) (count_test d) k) ++ same k
+    λ k. tallied_code HowMany d z.nodes (λ j. code_same g t z (J ++ j ∷ []) (d + 1) (tally_test HowMany d) k) ++ same k
+let_same g (Least' p t) z J d rest after same =
+    λ k. tallied_code LeastMessage d z.nodes
+    (λ j. code_same g t z (J ++ j ∷ []) (d + 1) (tally_test LeastMessage d) k) ++ same k
 let_same g e z J d rest after same = λ k. stored_code (source_same g e z J k) d (code_same g e z J d Value k) (same k)
 
 block_same : (g : Global) (s : Statement) (z : Sizes) (J : List ℕ) (d : ℕ)
@@ -212,9 +221,14 @@ block_same g (If' t p a q b) z J d =
 block_same g (For' p body) z J d = λ k. each_code (λ j. block_same g body z (J ++ j ∷ []) d k) z.nodes
 block_same g (SendAll e) z J d = λ k. send_all_code (source_same g e z J k) d z.nodes (code_same g e z J d Value k)
 block_same g (SendTo e to) z J d =
+    let D = depth_behind (is_operand e) d in
+    let E = depth_behind (is_operand (lifted g e)) d in
+    let deep : D ≡ E = λ k. depth_behind (operand_same g e k) d in
+    let receiver : term_code to z J D Value ≡ term_code (lifted g to) z J E Value =
+    code_same g to z J D Value ∙ ap (λ (n : ℕ). term_code (lifted g to) z J n Value) deep in
     λ k. if constant_same g to k then send_to_constant_code (source_same g e z J k) (number_same g to z J k) z.nodes
-    (code_same g e z J d Value k) else code_same g e z J d Value k
-    ++ (keep_code (number_place d) ∷ (code_same g to z J (d + 1) Value k ++ send_to_code d z.nodes))
+    (code_same g e z J d Value k)
+    else send_to_code (source_same g e z J k) d z.nodes (code_same g e z J d Value k) (receiver k)
 
 block_fits_same : (g : Global) (s : Statement) (z : Sizes) (loops d : ℕ)
     → BlockFits s z loops d ≡ BlockFits (lifted_block g s) z loops d
@@ -228,12 +242,12 @@ block_fits_same g (If' t p a q b) z loops d =
 block_fits_same g (For' p body) z loops d = block_fits_same g body z (loops + 1) d
 block_fits_same g (SendAll e) z loops d = λ k. HasPlace (operand_same g e k) d × fits_same g e z loops d d k
 block_fits_same g (SendTo e to) z loops d =
-    let D = depth_behind (is_constant to) d in
-    let E = depth_behind (is_constant (lifted g to)) d in
-    let deep : D ≡ E = λ k. depth_behind (constant_same g to k) d in
+    let D = depth_behind (is_constant to || is_operand e) d in
+    let E = depth_behind (is_constant (lifted g to) || is_operand (lifted g e)) d in
+    let deep : D ≡ E = λ k. depth_behind (constant_same g to k || operand_same g e k) d in
     let right : Fits to z loops d D ≡ Fits (lifted g to) z loops d E =
-    fits_same g to z loops d D ∙ ap (λ (e : ℕ). Fits (lifted g to) z loops d e) deep in
-    λ k. HasPlace (constant_same g to k) d × fits_same g e z loops d d k × right k
+    fits_same g to z loops d D ∙ ap (λ (n : ℕ). Fits (lifted g to) z loops d n) deep in
+    λ k. HasPlace (constant_same g to k || operand_same g e k) d × fits_same g e z loops d d k × right k
 
 -- ---- rules of one form
 

@@ -59,6 +59,8 @@ pub enum Term {
     Choice(Box<Term>, Box<Term>, Box<Term>),
     /// The number of nodes for which the term holds.
     Count(Box<Term>),
+    /// The least message from a node for which the term holds, and no message if there is none.
+    Least(Box<Term>),
 }
 
 /// What an assignment sets.

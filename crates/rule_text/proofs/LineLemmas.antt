@@ -1,18 +1,19 @@
 -- The lines of statements, token by token; a rule that is read has as many as statements.
-use Rattle.std.proofs.Common.{◌≡◌, ℕ, ◌+◌, ◌<◌, Bool, true, false, if◌then◌else◌, List, [], ◌∷◌, ◌++◌, length, drop, get_or, refl, sym, ap, subst, ◌∙◌, arith, append_assoc, add-one, length-append}
+use Rattle.std.proofs.Common.{◌≡◌, ◌⊎◌, inl, inr, ℕ, ◌+◌, ◌<◌, Bool, true, false, if◌then◌else◌, List, [], ◌∷◌, ◌++◌, length, drop, get_or, refl, sym, ap, subst, ◌∙◌, arith, append_assoc, add-one, length-append}
 use Rattle.std.specs.Prelude.{Some, None, Ok}
 use Rattle.std.proofs.Math.Seq.{drop-cons}
 use Rattle.rule_text.specs.declared.signs.Sign.{Sign}
 use Rattle.rule_text.specs.declared.signs.Sign.TheVariants as signs
+use Rattle.rule_text.specs.declared.lexemes.Name.{Name}
 use Rattle.rule_text.specs.declared.lexemes.Kind.{Kind}
-use Rattle.rule_text.specs.declared.lexemes.Kind.TheVariants.{Mark, LineStart, TextEnd}
+use Rattle.rule_text.specs.declared.lexemes.Kind.TheVariants.{Named, Mark, LineStart}
 use Rattle.rule_text.specs.declared.lexemes.Token.{Token}
 use Rattle.rule_text.specs.declared.scope.Entry.{Entry}
 use Rattle.rule_text.specs.declared.joints.Joint.{Joint}
 use Rattle.rule_text.specs.declared.joints.Chain.{Chain}
 use Rattle.rule_text.specs.declared.joints.Chain.TheVariants as chains
 use Rattle.rule_text.specs.declared.lines.Spot.{Spot}
-use Rattle.rule_text.specs.declared.lines.Spot.TheVariants.{Front, Counting, Inside}
+use Rattle.rule_text.specs.declared.lines.Spot.TheVariants.{Front, Counting, AfterName, Inside}
 use Rattle.rule_syntax.specs.declared.syntax.Comparison.{Comparison}
 use Rattle.rule_syntax.specs.declared.syntax.Target.{Target}
 use Rattle.rule_text.specs.Forms.{TermForm, AssignmentForm, StatementForm}
@@ -38,26 +39,52 @@ abbrev steps : Spot → List Token → Spot
 steps spot [] = spot
 steps spot (t ∷ ts) = steps (spot_after spot t.kind) ts
 
--- these tokens begin n statements and lead from one spot to another
-record Scans (spot to : Spot) (n : ℕ) (ts : List Token) : Type 0 where
+-- where a scan is: at this spot, or inside a line, maybe after a name
+data Stage : Type 0 where
+  at : Spot → Stage
+  resting : Stage
+
+abbrev IsAt : Stage → Spot → Type 0
+IsAt (at spot) p = p ≡ spot
+IsAt resting p = (p ≡ Inside) ⊎ (p ≡ AfterName)
+
+-- from this spot on the tokens begin n statements, and lead to a stage
+record Scanned (to : Stage) (n : ℕ) (ts : List Token) (spot : Spot) : Type 0 where
   pub lines : length (token_lines_from spot ts) ≡ n
-  pub ends : steps spot ts ≡ to
+  pub ends : IsAt to (steps spot ts)
 
-scans_none : (spot : Spot) → Scans spot spot 0 []
-scans_none spot = record { lines = refl; ends = refl }
+-- the same from each spot of a stage
+record Scans (from to : Stage) (n : ℕ) (ts : List Token) : Type 0 where
+  pub scanned : (spot : Spot) → IsAt from spot → Scanned to n ts spot
 
-scans_as : {spot to : Spot} {m n : ℕ} {ts : List Token} → m ≡ n → Scans spot to m ts → Scans spot to n ts
-scans_as e a = record { lines = a.lines ∙ e; ends = a.ends }
+scans_none : (stage : Stage) → Scans stage stage 0 []
+scans_none stage = record { scanned = λ spot is. record { lines = refl; ends = is } }
 
-scans_both : {spot mid to : Spot} {m n : ℕ} {xs ys : List Token} → Scans spot mid m xs → Scans mid to n ys
-    → Scans spot to (m + n) (xs ++ ys)
-scans_both {spot = spot} {mid = mid} {xs = xs} {ys = ys} a b =
-    let joined = lines_append spot xs ys in
-    let here = ap (λ (p : Spot). length (token_lines_from p ys)) a.ends in
-    record {
-      lines = omega (arith, joined, here, a.lines, b.lines);
-      ends = steps_append spot xs ys ∙ ap (λ (p : Spot). steps p ys) a.ends ∙ b.ends;
-    }
+-- the end of a term
+scans_end : Scans (at Inside) resting 0 []
+scans_end = record { scanned = λ spot is. record { lines = refl; ends = inl is } }
+
+scans_as : {from to : Stage} {m n : ℕ} {ts : List Token} → m ≡ n → Scans from to m ts → Scans from to n ts
+scans_as e a = record {
+  scanned = λ spot is. let b = a.scanned spot is in record { lines = b.lines ∙ e; ends = b.ends };
+}
+
+-- from one of the spots of a stage
+scans_inside : {to : Stage} {n : ℕ} {ts : List Token} → Scans resting to n ts → Scans (at Inside) to n ts
+scans_inside a = record { scanned = λ spot is. a.scanned spot (inl is) }
+
+scans_after_name : {to : Stage} {n : ℕ} {ts : List Token} → Scans resting to n ts → Scans (at AfterName) to n ts
+scans_after_name a = record { scanned = λ spot is. a.scanned spot (inr is) }
+
+scans_resting : {to : Stage} {n : ℕ} {ts : List Token} → Scans (at Inside) to n ts → Scans (at AfterName) to n ts
+    → Scans resting to n ts
+scans_resting a b = record {
+  scanned = λ spot is. elim is [ inl inside ↦ a.scanned spot inside | inr named ↦ b.scanned spot named ];
+}
+
+scans_both : {from mid to : Stage} {m n : ℕ} {xs ys : List Token} → Scans from mid m xs → Scans mid to n ys
+    → Scans from to (m + n) (xs ++ ys)
+scans_both {mid = mid} {to = to} {m = m} {n = n} {xs = xs} {ys = ys} a b = record { scanned = λ spot is. both spot (a.scanned spot is) }
   where
     lines_append : (p : Spot) (us vs : List Token)
         → length (token_lines_from p (us ++ vs)) ≡ length (token_lines_from p us) + length (token_lines_from (steps p us) vs)
@@ -74,29 +101,53 @@ scans_both {spot = spot} {mid = mid} {xs = xs} {ys = ys} a b =
     steps_append p [] vs = refl
     steps_append p (u ∷ us) vs = steps_append (spot_after p u.kind) us vs
 
+    both : (spot : Spot) → Scanned mid m xs spot → Scanned to (m + n) (xs ++ ys) spot
+    both spot first =
+        let second = b.scanned (steps spot xs) first.ends in
+        let joined = lines_append spot xs ys in
+        record {
+          lines = omega (arith, joined, first.lines, second.lines);
+          ends = subst (IsAt to) (sym (steps_append spot xs ys)) second.ends;
+        }
+
 -- a token of a kind, of which these are the lines and the spot after it
-scans_kind : {kind : Kind} {to : Spot} {n : ℕ} {ts : List Token} (spot mid : Spot) (m : ℕ) (t : Token) → s.HasKind kind t
-    → ((u : Token) → u.kind ≡ kind → length (token_line spot u) ≡ m) → spot_after spot kind ≡ mid → Scans mid to n ts
-    → Scans spot to (m + n) (t ∷ ts)
-scans_kind {ts = ts} spot mid m t is one next a =
+scans_kind : {kind : Kind} {to : Stage} {n : ℕ} {ts : List Token} (spot mid : Spot) (m : ℕ) (t : Token)
+    → s.HasKind kind t → ((u : Token) → u.kind ≡ kind → length (token_line spot u) ≡ m) → spot_after spot kind ≡ mid
+    → Scans (at mid) to n ts → Scans (at spot) to (m + n) (t ∷ ts)
+scans_kind {to = to} {n = n} {ts = ts} spot mid m t is one next a =
     let after : spot_after spot t.kind ≡ mid = ap (spot_after spot) is.is ∙ next in
-    let rest = ap (λ (p : Spot). length (token_lines_from p ts)) after in
-    record {
+    let rest = a.scanned (spot_after spot t.kind) after in
+    let here : Scanned to (m + n) (t ∷ ts) spot = record {
       lines = omega (
         arith,
         length-append (token_line spot t) (token_lines_from (spot_after spot t.kind) ts),
         one t is.is,
-        rest,
-        a.lines,
+        rest.lines,
       );
-      ends = ap (λ (p : Spot). steps p ts) after ∙ a.ends;
-    }
+      ends = rest.ends;
+    } in
+    record { scanned = λ p same. subst (Scanned to (m + n) (t ∷ ts)) (sym same) here }
 
--- a token inside a line begins none
-inner : {kind : Kind} {mid to : Spot} {n : ℕ} {ts : List Token} (t : Token) → s.HasKind kind t
-    → spot_after Inside kind ≡ mid → Scans mid to n ts → Scans Inside to n (t ∷ ts)
-inner {kind = kind} {mid = mid} {n = n} t is next a =
-    scans_as (omega arith) (scans_kind {kind = kind} Inside mid 0 t is (λ u e. refl) next a)
+-- a token inside a line begins no statement
+quiet : {kind : Kind} {to : Stage} {n : ℕ} {ts : List Token} (spot mid : Spot) (t : Token) → s.HasKind kind t
+    → ((u : Token) → length (token_line spot u) ≡ 0) → spot_after spot kind ≡ mid → Scans (at mid) to n ts
+    → Scans (at spot) to n (t ∷ ts)
+quiet {kind = kind} spot mid t is none next a =
+    scans_as (omega arith) (scans_kind {kind = kind} spot mid 0 t is (λ u e. none u) next a)
+
+-- nor does one after a name
+inner : {kind : Kind} {mid : Spot} {to : Stage} {n : ℕ} {ts : List Token} (t : Token) → s.HasKind kind t
+    → spot_after Inside kind ≡ mid → spot_after AfterName kind ≡ mid → Scans (at mid) to n ts
+    → Scans resting to n (t ∷ ts)
+inner {kind = kind} {mid = mid} t is next later a =
+    scans_resting (quiet {kind = kind} Inside mid t is (λ u. refl) next a)
+    (quiet {kind = kind} AfterName mid t is (λ u. refl) later a)
+
+-- a name
+called : {name : Name} {to : Stage} {n : ℕ} {ts : List Token} (t : Token) → s.HasKind (Named name) t
+    → Scans resting to n ts → Scans (at Inside) to n (t ∷ ts)
+called {name = name} t is a =
+    quiet {kind = Named name} Inside AfterName t is (λ u. refl) refl (scans_after_name a)
 
 front_line : (u : Token) (kind : Kind) (b : Bool) → u.kind ≡ kind → begins_statement kind ≡ b
     → length (token_line Front u) ≡ (if b then 1 else 0)
@@ -109,168 +160,198 @@ front_line u kind b e f =
     by false = refl
 
 -- a token at the front begins a statement, or none
-first : {kind : Kind} {to : Spot} {n : ℕ} {ts : List Token} (t : Token) → s.HasKind kind t
-    → begins_statement kind ≡ true → spot_after Front kind ≡ Inside → Scans Inside to n ts → Scans Front to (1 + n) (t ∷ ts)
-first {kind = kind} t is begins next a =
-    scans_kind {kind = kind} Front Inside 1 t is (λ u e. front_line u kind true e begins) next a
+first : {kind : Kind} {mid : Spot} {to : Stage} {n : ℕ} {ts : List Token} (t : Token) → s.HasKind kind t
+    → begins_statement kind ≡ true → spot_after Front kind ≡ mid → Scans (at mid) to n ts
+    → Scans (at Front) to (1 + n) (t ∷ ts)
+first {kind = kind} {mid = mid} t is begins next a =
+    scans_kind {kind = kind} Front mid 1 t is (λ u e. front_line u kind true e begins) next a
 
-passed : {kind : Kind} {to : Spot} {n : ℕ} {ts : List Token} (t : Token) → s.HasKind kind t
-    → begins_statement kind ≡ false → spot_after Front kind ≡ Inside → Scans Inside to n ts → Scans Front to n (t ∷ ts)
-passed {kind = kind} t is begins next a =
-    scans_as (omega arith) (scans_kind {kind = kind} Front Inside 0 t is (λ u e. front_line u kind false e begins) next a)
+passed : {kind : Kind} {mid : Spot} {to : Stage} {n : ℕ} {ts : List Token} (t : Token) → s.HasKind kind t
+    → begins_statement kind ≡ false → spot_after Front kind ≡ mid → Scans (at mid) to n ts
+    → Scans (at Front) to n (t ∷ ts)
+passed {kind = kind} {mid = mid} t is begins next a =
+    scans_as (omega arith)
+    (scans_kind {kind = kind} Front mid 0 t is (λ u e. front_line u kind false e begins) next a)
 
 -- the start of a line
-started : {column : ℕ} {to : Spot} {n : ℕ} {ts : List Token} (t : Token) → s.IsLineStart column t → Scans Front to n ts
-    → Scans Inside to n (t ∷ ts)
-started t is a = inner t is.start refl a
+started : {column : ℕ} {to : Stage} {n : ℕ} {ts : List Token} (t : Token) → s.IsLineStart column t
+    → Scans (at Front) to n ts → Scans resting to n (t ∷ ts)
+started t is a = inner t is.start refl refl a
 
-also_from_front : {to : Spot} {n : ℕ} {ts : List Token} (t : Token) → t.kind ≡ LineStart → Scans Inside to n (t ∷ ts)
-    → Scans Front to n (t ∷ ts)
-also_from_front {ts = ts} t e a =
-    let none : length (token_line Front t) ≡ 0 = front_line t LineStart false e refl in
-    let same : spot_after Front t.kind ≡ spot_after Inside t.kind = ap (spot_after Front) e ∙ sym (ap (spot_after Inside) e) in
+-- also where a statement can begin
+also_from_front : {column : ℕ} {to : Stage} {n : ℕ} {ts : List Token} (t : Token) → s.IsLineStart column t
+    → Scans resting to n (t ∷ ts) → Scans (at Front) to n (t ∷ ts)
+also_from_front {to = to} {n = n} {ts = ts} t start a =
+    let b = a.scanned Inside (inl refl) in
+    let none : length (token_line Front t) ≡ 0 = front_line t LineStart false start.start.is refl in
+    let same : spot_after Front t.kind ≡ spot_after Inside t.kind =
+    ap (spot_after Front) start.start.is ∙ sym (ap (spot_after Inside) start.start.is) in
     let rest = ap (λ (p : Spot). length (token_lines_from p ts)) same in
-    record {
-      lines = omega (arith, length-append (token_line Front t) (token_lines_from (spot_after Front t.kind) ts), none, rest, a.lines);
-      ends = ap (λ (p : Spot). steps p ts) same ∙ a.ends;
-    }
+    let here : Scanned to n (t ∷ ts) Front = record {
+      lines = omega (
+        arith,
+        length-append (token_line Front t) (token_lines_from (spot_after Front t.kind) ts),
+        none,
+        rest,
+        b.lines,
+      );
+      ends = subst (λ (p : Spot). IsAt to (steps p ts)) (sym same) b.ends;
+    } in
+    record { scanned = λ p is. subst (Scanned to n (t ∷ ts)) (sym is) here }
 
 -- ---- terms
 
-joint_inside : (chain : Chain) (kind : Kind) (joint : Joint) → joint_of chain kind ≡ Some joint
-    → spot_after Inside kind ≡ Inside
-joint_inside chains.Product (Mark signs.Colon) joint e = absurd (let no : None ≡ Some joint = e in cc)
-joint_inside chains.Product (Mark signs.Count) joint e = absurd (let no : None ≡ Some joint = e in cc)
-joint_inside chains.Sum (Mark signs.Colon) joint e = absurd (let no : None ≡ Some joint = e in cc)
-joint_inside chains.Sum (Mark signs.Count) joint e = absurd (let no : None ≡ Some joint = e in cc)
-joint_inside chains.Both (Mark signs.Colon) joint e = absurd (let no : None ≡ Some joint = e in cc)
-joint_inside chains.Both (Mark signs.Count) joint e = absurd (let no : None ≡ Some joint = e in cc)
-joint_inside chains.Either (Mark signs.Colon) joint e = absurd (let no : None ≡ Some joint = e in cc)
-joint_inside chains.Either (Mark signs.Count) joint e = absurd (let no : None ≡ Some joint = e in cc)
-joint_inside chain LineStart joint e = absurd (let no : None ≡ Some joint = e in cc)
-joint_inside chain kind joint e = refl
+-- a line goes on after a token of this kind, which isn't a name
+record GoesOn (kind : Kind) : Type 0 where
+  pub inside : spot_after Inside kind ≡ Inside
+  pub named : spot_after AfterName kind ≡ Inside
 
-comparison_inside : (kind : Kind) (comparison : Comparison) → comparison_of kind ≡ Some comparison
-    → spot_after Inside kind ≡ Inside
-comparison_inside (Mark signs.Colon) comparison e = absurd (let no : None ≡ Some comparison = e in cc)
-comparison_inside (Mark signs.Count) comparison e = absurd (let no : None ≡ Some comparison = e in cc)
-comparison_inside LineStart comparison e = absurd (let no : None ≡ Some comparison = e in cc)
-comparison_inside kind comparison e = refl
+joint_goes_on : (chain : Chain) (kind : Kind) (joint : Joint) → joint_of chain kind ≡ Some joint → GoesOn kind
+joint_goes_on chains.Product (Mark signs.Colon) joint e = absurd (let no : None ≡ Some joint = e in cc)
+joint_goes_on chains.Product (Mark signs.Count) joint e = absurd (let no : None ≡ Some joint = e in cc)
+joint_goes_on chains.Sum (Mark signs.Colon) joint e = absurd (let no : None ≡ Some joint = e in cc)
+joint_goes_on chains.Sum (Mark signs.Count) joint e = absurd (let no : None ≡ Some joint = e in cc)
+joint_goes_on chains.Both (Mark signs.Colon) joint e = absurd (let no : None ≡ Some joint = e in cc)
+joint_goes_on chains.Both (Mark signs.Count) joint e = absurd (let no : None ≡ Some joint = e in cc)
+joint_goes_on chains.Either (Mark signs.Colon) joint e = absurd (let no : None ≡ Some joint = e in cc)
+joint_goes_on chains.Either (Mark signs.Count) joint e = absurd (let no : None ≡ Some joint = e in cc)
+joint_goes_on chain LineStart joint e = absurd (let no : None ≡ Some joint = e in cc)
+joint_goes_on chain (Named name) joint e = absurd (let no : None ≡ Some joint = e in cc)
+joint_goes_on chain kind joint e = record { inside = refl; named = refl }
 
-leaf_inside : (sign : Sign) (a : TermForm) → leaf_of sign ≡ Some a → spot_after Inside (Mark sign) ≡ Inside
-leaf_inside signs.Colon a e = absurd (let no : None ≡ Some a = e in cc)
-leaf_inside signs.Count a e = absurd (let no : None ≡ Some a = e in cc)
-leaf_inside sign a e = refl
+comparison_goes_on : (kind : Kind) (comparison : Comparison) → comparison_of kind ≡ Some comparison → GoesOn kind
+comparison_goes_on (Mark signs.Colon) comparison e = absurd (let no : None ≡ Some comparison = e in cc)
+comparison_goes_on (Mark signs.Count) comparison e = absurd (let no : None ≡ Some comparison = e in cc)
+comparison_goes_on LineStart comparison e = absurd (let no : None ≡ Some comparison = e in cc)
+comparison_goes_on (Named name) comparison e = absurd (let no : None ≡ Some comparison = e in cc)
+comparison_goes_on kind comparison e = record { inside = refl; named = refl }
+
+leaf_goes_on : (sign : Sign) (a : TermForm) → leaf_of sign ≡ Some a → GoesOn (Mark sign)
+leaf_goes_on signs.Colon a e = absurd (let no : None ≡ Some a = e in cc)
+leaf_goes_on signs.Count a e = absurd (let no : None ≡ Some a = e in cc)
+leaf_goes_on sign a e = record { inside = refl; named = refl }
 
 abbrev Quiet : List Token → Type 0
-Quiet ts = Scans Inside Inside 0 ts
+Quiet ts = Scans (at Inside) resting 0 ts
+
+-- an operator, and more of the term
+operator : (o : Token) (ts : List Token) → GoesOn o.kind → Quiet ts → Scans resting resting 0 (o ∷ ts)
+operator o ts goes a = inner {kind = o.kind} o (record { is = refl }) goes.inside goes.named a
+
+-- a word or sign, inside a line
+inside : {kind : Kind} {mid : Spot} {to : Stage} {n : ℕ} {ts : List Token} (t : Token) → s.HasKind kind t
+    → spot_after Inside kind ≡ mid → Scans (at mid) to n ts → Scans (at Inside) to n (t ∷ ts)
+inside {kind = kind} {mid = mid} t is next a = quiet {kind = kind} Inside mid t is (λ u. refl) next a
 
 module _ (text : List ℕ) where
+  -- the colon after the name of an aggregate
   counting : (n d : Token) {maker : _} {names more : List Entry} {ts : List Token} → s.IsNew text maker names n more
-      → s.IsSign signs.Colon d → Quiet ts → Scans Counting Inside 0 (n ∷ d ∷ ts)
-  counting n d {ts = ts} new colon a =
-      let named : spot_after Counting n.kind ≡ Counting = ap (spot_after Counting) new.named.is in
-      let there : spot_after Counting d.kind ≡ Inside = ap (spot_after Counting) colon.is in
-      let both : spot_after (spot_after Counting n.kind) d.kind ≡ Inside =
-      ap (λ (p : Spot). spot_after p d.kind) named ∙ there in
-      let quiet : token_line (spot_after Counting n.kind) d ≡ [] = ap (λ (p : Spot). token_line p d) named in
-      record {
-        lines = ap (λ (l : List ℕ). length (l ++ token_lines_from (spot_after (spot_after Counting n.kind) d.kind) ts)) quiet
-            ∙ ap (λ (p : Spot). length (token_lines_from p ts)) both ∙ a.lines;
-        ends = ap (λ (p : Spot). steps p ts) both ∙ a.ends;
-      }
+      → s.IsSign signs.Colon d → Quiet ts → Scans (at Counting) resting 0 (n ∷ d ∷ ts)
+  counting n d new colon a =
+      quiet {kind = Named new.name} Counting Counting n new.named (λ u. refl) refl
+      (quiet {kind = Mark signs.Colon} Counting Inside d colon (λ u. refl) refl a)
+
+  -- and after the word `least`
+  counting_least : (l n d : Token) {letters : List ℕ} {maker : _} {names more : List Entry} {ts : List Token}
+      → s.IsNameOf text letters l → s.IsNew text maker names n more → s.IsSign signs.Colon d → Quiet ts
+      → Quiet (l ∷ n ∷ d ∷ ts)
+  counting_least l n d word new colon a =
+      quiet {kind = Named word.name} Inside AfterName l word.named (λ u. refl) refl
+      (quiet {kind = Named new.name} AfterName Counting n new.named (λ u. refl) refl
+      (quiet {kind = Mark signs.Colon} Counting Inside d colon (λ u. refl) refl a))
 
   term_scans : {level : s.Level} {names : List Entry} {ts : List Token} {a : TermForm} → s.IsTerm text level names ts a
       → Quiet ts
   term_scans (s.alone h) = term_scans h
   term_scans (s.chosen x i t e y) =
-      scans_both (term_scans x) (inner _ i refl (scans_both (term_scans t) (inner _ e refl (term_scans y))))
-  term_scans (s.counted c n d h) = inner _ c refl (counting _ _ n d (term_scans h))
+      scans_both (term_scans x) (inner _ i refl refl (scans_both (term_scans t) (inner _ e refl refl (term_scans y))))
+  term_scans (s.counted c n d h) = inside _ c refl (counting _ _ n d (term_scans h))
+  term_scans (s.least_of l n d h) = counting_least _ _ _ l n d (term_scans h)
   term_scans (s.joined o x e y) =
-      scans_both (term_scans x) (inner {kind = o.kind} o (record { is = refl }) (joint_inside _ o.kind _ e) (term_scans y))
-  term_scans (s.not_so o h) = inner _ o refl (term_scans h)
+      scans_both (term_scans x) (operator o _ (joint_goes_on _ o.kind _ e) (term_scans y))
+  term_scans (s.not_so o h) = inside _ o refl (term_scans h)
   term_scans (s.beside o x e y) =
-      scans_both (term_scans x) (inner {kind = o.kind} o (record { is = refl }) (comparison_inside o.kind _ e) (term_scans y))
-  term_scans (s.numeral is) = inner _ is refl (scans_none Inside)
-  term_scans (s.named is e) = inner _ is refl (scans_none Inside)
-  term_scans (s.given is e) = inner _ is (leaf_inside _ _ e) (scans_none Inside)
-  term_scans (s.received m o h c) = inner _ m refl (inner _ o refl (scans_both (term_scans h) (inner _ c refl (scans_none Inside))))
-  term_scans (s.bracketed o h c) = inner _ o refl (scans_both (term_scans h) (inner _ c refl (scans_none Inside)))
+      scans_both (term_scans x) (operator o _ (comparison_goes_on o.kind _ e) (term_scans y))
+  term_scans (s.numeral is) = inside _ is refl scans_end
+  term_scans (s.named is e) = called _ is (scans_none resting)
+  term_scans (s.given is e) = inside _ is (leaf_goes_on _ _ e).inside scans_end
+  term_scans (s.received m o h c) =
+      inside _ m refl (inside _ o refl (scans_both (term_scans h) (inner _ c refl refl scans_end)))
+  term_scans (s.bracketed o h c) = inside _ o refl (scans_both (term_scans h) (inner _ c refl refl scans_end))
 
   -- ---- statements without blocks
 
-  target_inner : {names : List Entry} {to : Spot} {n : ℕ} {ts : List Token} (t : Token) (target : Target)
-      → s.IsTarget text names t target → Scans Inside to n ts → Scans Inside to n (t ∷ ts)
-  target_inner t target (s.the_clock is) a = inner t is refl a
-  target_inner t target (s.a_let is e) a = inner t is refl a
-  target_inner t target (s.a_word is e) a = inner t is refl a
+  target_scans : {names : List Entry} (t : Token) (target : Target) → s.IsTarget text names t target → Quiet (t ∷ [])
+  target_scans t target (s.the_clock is) = inside t is refl scans_end
+  target_scans t target (s.a_let is e) = called t is (scans_none resting)
+  target_scans t target (s.a_word is e) = called t is (scans_none resting)
 
   target_first : {names : List Entry} (t : Token) (target : Target) → s.IsTarget text names t target
-      → Scans Front Inside 1 (t ∷ [])
-  target_first t target (s.the_clock is) = first t is refl refl (scans_none Inside)
-  target_first t target (s.a_let is e) = first t is refl refl (scans_none Inside)
-  target_first t target (s.a_word is e) = first t is refl refl (scans_none Inside)
+      → Scans (at Front) resting 1 (t ∷ [])
+  target_first t target (s.the_clock is) = first t is refl refl scans_end
+  target_first t target (s.a_let is e) = first t is refl refl (scans_after_name (scans_none resting))
+  target_first t target (s.a_word is e) = first t is refl refl (scans_after_name (scans_none resting))
 
   targets_scan : {names : List Entry} {ts : List Token} {targets : List Target} → s.AreTargets text names ts targets
-      → Scans Front Inside 1 ts
+      → Scans (at Front) resting 1 ts
   targets_scan (s.first_target is) = target_first _ _ is
-  targets_scan (s.next_target h c is once) =
-      scans_both (targets_scan h) (inner _ c refl (target_inner _ _ is (scans_none Inside)))
+  targets_scan (s.next_target h c is once) = scans_both (targets_scan h) (inner _ c refl refl (target_scans _ _ is))
 
   numbers_scan : {names : List Entry} {ts : List Token} {targets : List Target} {a : AssignmentForm}
       → s.AreTerms text names ts targets a → Quiet ts
   numbers_scan (s.first_number h) = term_scans h
-  numbers_scan (s.next_number h c e) = scans_both (numbers_scan h) (inner _ c refl (term_scans e))
+  numbers_scan (s.next_number h c e) = scans_both (numbers_scan h) (inner _ c refl refl (term_scans e))
 
   action_scans : {names : List Entry} {ts : List Token} {a : StatementForm} → s.IsAction text names ts a
-      → Scans Front Inside (form_statements a) ts
+      → Scans (at Front) resting (form_statements a) ts
   action_scans (s.sent is e) = first _ is refl refl (term_scans e)
-  action_scans (s.sent_to is e t k) = first _ is refl refl (scans_both (term_scans e) (inner _ t refl (term_scans k)))
-  action_scans (s.set ts b ns) = scans_both (targets_scan ts) (inner _ b refl (numbers_scan ns))
+  action_scans (s.sent_to is e t k) =
+      first _ is refl refl (scans_both (term_scans e) (inner _ t refl refl (term_scans k)))
+  action_scans (s.set ts b ns) = scans_both (targets_scan ts) (inner _ b refl refl (numbers_scan ns))
 
   let_scans : {names more : List Entry} {ts : List Token} {e : TermForm} → s.IsLet text names ts more e
-      → Scans Front Inside 1 ts
+      → Scans (at Front) resting 1 ts
   let_scans l =
-      subst (λ (ts : List Token). Scans Front Inside 1 ts) (sym l.tokens)
-      (first l.«let» l.is_let refl refl (inner l.name l.is_new.named refl (inner l.becomes l.is_becomes refl
+      subst (λ (ts : List Token). Scans (at Front) resting 1 ts) (sym l.tokens)
+      (first l.«let» l.is_let refl refl (called l.name l.is_new.named (inner l.becomes l.is_becomes refl refl
       (term_scans l.is_term))))
 
   simple_scans : {names : List Entry} {ts : List Token} {a : StatementForm} → s.IsSimple text names ts a
-      → Scans Front Inside (form_statements a) ts
+      → Scans (at Front) resting (form_statements a) ts
   simple_scans (s.action is) = action_scans is
   simple_scans (s.let_alone l) = let_scans l
 
   -- ---- statements and blocks
 
-  abbrev first_kind : List Token → Kind
-  first_kind [] = TextEnd
-  first_kind (t ∷ ts) = t.kind
+  abbrev StartsIn : ℕ → List Token → Type 0
+  StartsIn column [] = Unit {0}
+  StartsIn column (t ∷ ts) = s.IsLineStart column t
 
   block_first : {column : ℕ} {names : List Entry} {us : List Token} {a : StatementForm} → s.IsBlock text column names us a
-      → (t : Token) (ts : List Token) → us ≡ t ∷ ts → t.kind ≡ LineStart
-  block_first s.empty t ts e = absurd (let no : [] ≡ t ∷ ts = e in cc)
-  block_first (s.let_line start l rest) t ts e = sym (ap first_kind e) ∙ start.start.is
-  block_first (s.line start l rest) t ts e = sym (ap first_kind e) ∙ start.start.is
+      → StartsIn column us
+  block_first s.empty = tt
+  block_first (s.let_line start l rest) = start
+  block_first (s.line start l rest) = start
 
   -- the cases of a condition begin one statement less, that of the "if" or "elif" before them
   record Cases (a : StatementForm) (ts : List Token) : Type 0 where
     pub count : ℕ
-    pub scans : Scans Inside Inside count ts
+    pub scans : Scans (at Inside) resting count ts
     pub more : count + 1 ≡ form_statements a
 
   mutual
     block_scans : {column : ℕ} {names : List Entry} {ts : List Token} {a : StatementForm}
-        → s.IsBlock text column names ts a → Scans Inside Inside (form_statements a) ts
-    block_scans s.empty = scans_none Inside
+        → s.IsBlock text column names ts a → Scans resting resting (form_statements a) ts
+    block_scans s.empty = scans_none resting
     block_scans (s.let_line start l rest) =
         scans_as (omega arith) (started _ start (scans_both (let_scans l) (block_scans rest)))
     block_scans (s.line start one rest) = started _ start (scans_both (statement_scans one) (block_scans rest))
 
     statement_scans : {column : ℕ} {names : List Entry} {ts : List Token} {a : StatementForm}
-        → s.IsStatement text column names ts a → Scans Front Inside (form_statements a) ts
+        → s.IsStatement text column names ts a → Scans (at Front) resting (form_statements a) ts
     statement_scans (s.does is) = action_scans is
     statement_scans (s.loop is new body) =
-        scans_as (omega arith) (first _ is refl refl (inner _ new.named refl (body_scans body)))
+        scans_as (omega arith) (first _ is refl refl (called _ new.named (body_scans body)))
     statement_scans (s.case is all) =
         let c = cases_scan all in
         scans_as (omega (arith, c.more)) (first _ is refl refl c.scans)
@@ -284,27 +365,29 @@ module _ (text : List ℕ) where
     }
 
     otherwise_scans : {column : ℕ} {names : List Entry} {ts : List Token} {a : StatementForm}
-        → s.IsOtherwise text column names ts a → Scans Inside Inside (form_statements a) ts
-    otherwise_scans s.none = scans_none Inside
+        → s.IsOtherwise text column names ts a → Scans resting resting (form_statements a) ts
+    otherwise_scans s.none = scans_none resting
     otherwise_scans (s.elif_line start is all) =
         let c = cases_scan all in
         scans_as (omega (arith, c.more)) (started _ start (first _ is refl refl c.scans))
-    otherwise_scans (s.else_line start is body) = started _ start (passed _ is refl refl (body_scans body))
+    otherwise_scans (s.else_line start is body) =
+        started _ start (passed _ is refl refl (scans_inside (body_scans body)))
 
     body_scans : {column : ℕ} {names : List Entry} {ts : List Token} {a : StatementForm}
-        → s.IsBody text column names ts a → Scans Inside Inside (form_statements a) ts
-    body_scans (s.same_line is simple) = inner _ is refl (simple_scans simple)
+        → s.IsBody text column names ts a → Scans resting resting (form_statements a) ts
+    body_scans (s.same_line is simple) = inner _ is refl refl (simple_scans simple)
     body_scans (s.deeper is further block) =
-        inner _ is refl (also_from_front _ (block_first block _ _ refl) (block_scans block))
+        inner _ is refl refl (also_from_front _ (block_first block) (block_scans block))
 
   -- ---- rules
 
   words_scan : {names all : List Entry} {ts : List Token} → s.AreWords text names ts all → Quiet ts
-  words_scan (s.last_word new) = inner _ new.named refl (scans_none Inside)
-  words_scan (s.word_before new c rest) = inner _ new.named refl (inner _ c refl (words_scan rest))
+  words_scan (s.last_word new) = called _ new.named (scans_none resting)
+  words_scan (s.word_before new c rest) = called _ new.named (inner _ c refl refl (words_scan rest))
 
-  header_scans : {column : ℕ} {names all : List Entry} {ts : List Token} → s.IsHeader text column names ts all → Quiet ts
-  header_scans s.no_header = scans_none Inside
+  header_scans : {column : ℕ} {names all : List Entry} {ts : List Token} → s.IsHeader text column names ts all
+      → Scans resting resting 0 ts
+  header_scans s.no_header = scans_none resting
   header_scans (s.state_line start is words rest) =
       started _ start (passed _ is refl refl (scans_both (words_scan words) (header_scans rest)))
 
@@ -313,5 +396,6 @@ pub one_line_each : (text : List ℕ) (rule : RuleForm) → rule_read text ≡ O
 one_line_each text rule e =
     let sp = read_spelled text rule e in
     let all = scans_both (header_scans text sp.is_header)
-    (scans_both (block_scans text sp.is_block) (inner sp.end sp.ends refl (scans_none Inside))) in
-    ap (λ (ts : List Token). length (token_lines_from Inside ts)) sp.tokens ∙ all.lines ∙ omega arith
+    (scans_both (block_scans text sp.is_block) (inner sp.end sp.ends refl refl (scans_none (at Inside)))) in
+    let found = all.scanned Inside (inl refl) in
+    ap (λ (ts : List Token). length (token_lines_from Inside ts)) sp.tokens ∙ found.lines ∙ omega arith

@@ -11,6 +11,7 @@ use Rattle.rule_text.specs.declared.signs.Sign.TheVariants as signs
 use Rattle.rule_text.specs.declared.lexemes.Name.{Name}
 use Rattle.rule_text.specs.declared.lexemes.Kind.{Kind}
 use Rattle.rule_text.specs.declared.lexemes.Kind.TheVariants.{Named, Mark, Fault, LineStart, TextEnd}
+use Rattle.rule_text.specs.declared.lexemes.Position.{Position}
 use Rattle.rule_text.specs.declared.lexemes.Token.{Token}
 use Rattle.rule_text.specs.declared.layout.TheConstants.{MAX_LINES, MAX_LINE_TOKENS}
 use Rattle.rule_text.specs.declared.scope.Meaning.{Meaning}
@@ -27,7 +28,7 @@ use Rattle.rule_text.specs.declared.lexemes.Class.TheVariants.{Digits, Letters, 
 use Rattle.rule_text.specs.declared.lexemes.TheConstants.{MAX_NAME_LETTERS}
 use Rattle.rule_text.specs.declared.layout.Lines.{Lines}
 use Rattle.rule_text.specs.Signs.{sign_of}
-use Rattle.rule_text.specs.Tokens.{begins_line, laid, is_space, is_digit, begins_name, run, number_spelled, number_kind, name_kind, reserved_kind, word_kind, lexeme, no_lexeme, number_lexeme, word_from, word_lexeme, marked_or, sign_lexeme, lexeme_at, first_place, past, tokens_at, lexemes_from, lexemes_of, of_kind, first_lines, beyond, start_kind, inner_kind, is_end, laid_from, tokens_of}
+use Rattle.rule_text.specs.Tokens.{begins_line, laid, is_space, is_digit, begins_name, run, number_spelled, number_kind, name_kind, reserved_kind, word_kind, lexeme, no_lexeme, number_lexeme, word_from, word_lexeme, marked_or, sign_lexeme, lexeme_at, first_place, first_end, end_after, past, tokens_at, lexemes_from, lexemes_of, of_kind, first_lines, beyond, start_kind, inner_kind, is_end, laid_from, tokens_of}
 use Rattle.rule_text.specs.Scopes.{◌>>=◌, rule_error_at, error_in, meaning_of, words_of, new_name}
 use Rattle.rule_text.specs.Terms.{rest_after, wanted, term_read}
 use Rattle.rule_text.specs.Statements.{target_meant, target_marked, target_by, has_target, with_target, more_targets, new_target, targets_read, values_read, numbers_read, assign_read, send_rest, send_read, let_read, simple_by, simple_read, Inner, is_start, deeper_read, block_read, body_read, other_by, other_read, branch_read, followed, statement_by, line_read, start_read, rest_by, rest_read, lines_read, state_names, after_state, header_read, RuleForm, ended, first_column, rule_in, rule_read}
@@ -616,17 +617,19 @@ lexeme_no_end at (c ∷ cs) =
 no_end : {P : Type 0} (kind : Kind) → IsNoEnd kind → kind ≡ TextEnd → P
 no_end kind h e = let no : false ≡ true = sym h ∙ ap is_end e in absurd cc
 
-kept_end : (o : Option Kind) (at : Place) (ts : List Token) → HasNoEnd o → OneEnd ts → OneEnd (tokens_at o at ++ ts)
-kept_end (Some kind) at ts h single = (λ e. no_end kind h e, single)
-kept_end None at ts h single = single
+kept_end : (o : Option Kind) (end : Position) (at : Place) (ts : List Token) → HasNoEnd o → OneEnd ts
+    → OneEnd (tokens_at o end at ++ ts)
+kept_end (Some kind) end at ts h single = (λ e. no_end kind h e, single)
+kept_end None end at ts h single = single
 
-lexemes_end : (skip : ℕ) (at : Place) (text : List ℕ) → OneEnd (lexemes_from skip at text)
-lexemes_end skip at [] = (λ e. refl, tt)
-lexemes_end (suc skip) at (c ∷ cs) = lexemes_end skip (past at c) cs
-lexemes_end zero at (c ∷ cs) =
+lexemes_end : (skip : ℕ) (end : Position) (at : Place) (text : List ℕ) → OneEnd (lexemes_from skip end at text)
+lexemes_end skip end at [] = (λ e. refl, tt)
+lexemes_end (suc skip) end at (c ∷ cs) = lexemes_end skip end (past at c) cs
+lexemes_end zero end at (c ∷ cs) =
     let here = lexeme_at at (c ∷ cs) in
-    kept_end here.kind at (lexemes_from here.further (past at c) cs) (lexeme_no_end at (c ∷ cs))
-    (lexemes_end here.further (past at c) cs)
+    let later = end_after here.kind here.further end at in
+    kept_end here.kind end at (lexemes_from here.further later (past at c) cs) (lexeme_no_end at (c ∷ cs))
+    (lexemes_end here.further later (past at c) cs)
 
 start_no_end : (state : Lines) (t : Token) → IsNoEnd (start_kind state t)
 start_no_end state t =
@@ -661,7 +664,7 @@ read_spelled text rule e =
     let ts = tokens_of text in
     let found = rule_reads text ts in
     let holds : SpelledBy text ts rule = subst (λ (r : Result RuleForm ReadRuleError). IfOk r (SpelledBy text ts)) e found.holds in
-    let single : OneEnd ts = laid_end first_lines (lexemes_of text) (lexemes_end 0 first_place text) in
+    let single : OneEnd ts = laid_end first_lines (lexemes_of text) (lexemes_end 0 first_end first_place text) in
     let last : holds.after ≡ [] =
     after_end (holds.header ++ holds.lines) holds.after holds.end holds.ends.is
     (subst OneEnd (holds.tokens ∙ sym (append_assoc holds.header holds.lines (holds.end ∷ holds.after))) single) in

@@ -1,8 +1,8 @@
 -- A term that is read is spelled by the tokens that it takes.
 use Rattle.std.proofs.Common.{◌≡◌, ℕ, zero, suc, Bool, true, false, cond, List, [], ◌∷◌, ◌++◌, length, refl, sym, ap, subst, ◌∙◌, append_assoc, append-nil}
-use Rattle.std.specs.Prelude.{nat_le, option_map, Option, Some, None, Result, Ok, Err, IfOk}
+use Rattle.std.specs.Prelude.{nat_le, codes, ◌&&◌, option_map, Option, Some, None, Result, Ok, Err, IfOk}
 use Rattle.std.proofs.lemmas.Slice.Eq.{bytes_eq-Decides}
-use Rattle.std.proofs.lemmas.Bool.{leb-false}
+use Rattle.std.proofs.lemmas.Bool.{leb-false, and_parts}
 use Rattle.std.proofs.lemmas.Option.{same_Some}
 use Rattle.rule_syntax.specs.declared.syntax.Comparison.{Comparison}
 use Rattle.rule_syntax.specs.declared.syntax.Operator.TheVariants.{Compare}
@@ -20,6 +20,8 @@ use Rattle.rule_text.specs.declared.scope.Entry.{Entry}
 use Rattle.rule_text.specs.declared.scope.Maker.{Maker}
 use Rattle.rule_text.specs.declared.scope.Maker.TheVariants as makers
 use Rattle.rule_text.specs.declared.scope.TheConstants.{MAX_NAMES}
+use Rattle.rule_text.specs.declared.aggregates.Aggregate.{Aggregate}
+use Rattle.rule_text.specs.declared.aggregates.Aggregate.TheVariants as aggregates
 use Rattle.rule_text.specs.declared.joints.Joint.{Joint}
 use Rattle.rule_text.specs.declared.joints.Chain.{Chain}
 use Rattle.rule_text.specs.declared.joints.Chain.TheVariants as chains
@@ -27,9 +29,9 @@ use Rattle.rule_text.specs.declared.terms.Grade.{Grade}
 use Rattle.rule_text.specs.declared.terms.Grade.TheVariants.{Whole, Inverse}
 use Rattle.rule_text.specs.declared.terms.TheConstants.{MAX_PARTS}
 use Rattle.rule_text.specs.Signs.{sign_text, sign_of, is_same}
-use Rattle.rule_text.specs.Forms.{TermForm, number, message, binary, inverse, choice, count}
-use Rattle.rule_text.specs.Scopes.{◌>>=◌, rule_error_at, error_in, meaning_of, scope_entry, next_meaning, added, named_entry_by, named_entry, new_name}
-use Rattle.rule_text.specs.Terms.{is_of_sign, rest_after, wanted, joint_of, comparison_of, joint_in, comparison_in, join, named_term, leaf_of, Reader, Inner, leaf, named_atom, bracketed, message_read, marked_atom, atom_by, atom, chain_step, chain_rest, chain_of, compare_rest, compare_read, inverse_read, operand_read, chain_read, choice_read, choice_rest, count_read, plain_read, whole_read, part, term_read}
+use Rattle.rule_text.specs.Forms.{TermForm, number, message, binary, inverse, choice}
+use Rattle.rule_text.specs.Scopes.{◌>>=◌, rule_error_at, error_in, letters_of, meaning_of, scope_entry, next_meaning, added, named_entry_by, named_entry, new_name}
+use Rattle.rule_text.specs.Terms.{is_of_sign, rest_after, wanted, joint_of, comparison_of, joint_in, comparison_in, is_least, begins_with_name, after_least, aggregate_in, aggregated, join, named_term, leaf_of, Reader, Inner, leaf, named_atom, bracketed, message_read, marked_atom, atom_by, atom, chain_step, chain_rest, chain_of, compare_rest, compare_read, inverse_read, operand_read, chain_read, choice_read, choice_rest, aggregate_read, plain_read, whole_read, part, term_read}
 use Rattle.rule_text.specs.Spelling as s
 
 -- ---- readings
@@ -180,6 +182,66 @@ module _ (text : List ℕ) where
       → New maker names ts more mid
       → ((t : Token) → s.IsNew text maker names t more → Took mid rest (λ us. Q (t ∷ us))) → Took ts rest Q
   took_new n next = took_of n.split (took_more n.first (next n.first n.is))
+
+  -- ---- aggregates
+
+  least_named : (t : Token) (kind : Kind) → t.kind ≡ kind → is_least text kind ≡ true
+      → s.IsNameOf text (codes "least") t
+  least_named t (Named name) e is =
+      record {
+        name = name;
+        named = record { is = e };
+        written = (bytes_eq-Decides (letters_of text name) (codes "least")).0 is;
+      }
+  least_named t kind e is = absurd (let no : false ≡ true = is in cc)
+
+  abbrev IsAggregate : Aggregate → Token → Type 0
+  IsAggregate aggregates.Count t = s.IsSign signs.Count t
+  IsAggregate aggregates.Least t = s.IsNameOf text (codes "least") t
+
+  -- the word of an aggregate is the first token
+  record FrontAggregate (aggregate : Aggregate) (ts rest : List Token) : Type 0 where
+    pub first : Token
+    pub split : ts ≡ first ∷ rest
+    pub is : IsAggregate aggregate first
+
+  least_front : (ts rest : List Token) → after_least text ts ≡ Some rest → FrontAggregate aggregates.Least ts rest
+  least_front [] rest e = absurd (let no : None ≡ Some rest = e in cc)
+  least_front (t ∷ ts) rest e = by (is_least text t.kind && begins_with_name ts) refl e
+    where
+      by : (b : Bool) → (is_least text t.kind && begins_with_name ts) ≡ b → cond b (Some ts) None ≡ Some rest
+          → FrontAggregate aggregates.Least (t ∷ ts) rest
+      by true is f =
+          let both = and_parts (is_least text t.kind) (begins_with_name ts) is in
+          record {
+            first = t;
+            split = ap (λ (l : List Token). t ∷ l) (same_Some ts rest f);
+            is = least_named t t.kind refl both.0;
+          }
+      by false is f = absurd (let no : None ≡ Some rest = f in cc)
+
+  aggregate_front : (ts : List Token) (x : Aggregate × List Token) → aggregate_in text ts ≡ Some x
+      → FrontAggregate x.0 ts x.1
+  aggregate_front ts x e = by (rest_after signs.Count ts) refl e
+    where
+      least : (o : Option (List Token)) → after_least text ts ≡ o
+          → option_map (λ rest. (aggregates.Least, rest)) o ≡ Some x → FrontAggregate x.0 ts x.1
+      least None is f = absurd (let no : None ≡ Some x = f in cc)
+      least (Some rest) is f =
+          subst (λ (y : Aggregate × List Token). FrontAggregate y.0 ts y.1)
+          (same_Some (aggregates.Least, rest) x f) (least_front ts rest is)
+
+      by : (o : Option (List Token)) → rest_after signs.Count ts ≡ o
+          → elim o [
+            | Some rest ↦ Some (aggregates.Count, rest)
+            | None ↦ option_map (λ rest. (aggregates.Least, rest)) (after_least text ts)
+          ] ≡ Some x
+          → FrontAggregate x.0 ts x.1
+      by None is f = least (after_least text ts) refl f
+      by (Some rest) is f =
+          let front = after_front signs.Count ts rest is in
+          subst (λ (y : Aggregate × List Token). FrontAggregate y.0 ts y.1) (same_Some (aggregates.Count, rest) x f)
+          (record { first = front.first; split = front.split; is = front.sign })
 
   -- ---- terms
 
@@ -391,23 +453,31 @@ module _ (text : List ℕ) where
         took_front elses (λ o else_sign. took last (λ vs c. s.chosen a if_sign b else_sign c))))))))))
         (λ e. gives x (alone_reads s.whole names ts x is)))
 
-    count_reads : (t : Token) (ts : List Token) → s.IsSign signs.Count t
-        → Reads (count_read inner text names ts) (IsReading s.whole names (t ∷ ts))
-    count_reads t ts sign =
+    aggregate_spelled : (aggregate : Aggregate) (more : List Entry) (t n c : Token) (us : List Token) (a : TermForm)
+        → IsAggregate aggregate t → s.IsNew text makers.Loop names n more → s.IsSign signs.Colon c
+        → s.IsTerm text s.whole more us a → s.IsTerm text s.whole names (t ∷ n ∷ c ∷ us) (aggregated aggregate a)
+    aggregate_spelled aggregates.Count more t n c us a is new colon term = s.counted is new colon term
+    aggregate_spelled aggregates.Least more t n c us a is new colon term = s.least_of is new colon term
+
+    aggregate_reads : (kind : Aggregate) (t : Token) (ts : List Token) → IsAggregate kind t
+        → Reads (aggregate_read inner text names kind ts) (IsReading s.whole names (t ∷ ts))
+    aggregate_reads kind t ts word =
         read_then (new_name text makers.Loop names ts) (λ more. wanted signs.Colon more.1
-        >>= λ rest. inner Whole more.0 rest >>= λ a. Ok (count a.0, a.1)) (new_reads makers.Loop names ts)
-        (λ more new. read_then (wanted signs.Colon more.1) (λ rest. inner Whole more.0 rest >>= λ a. Ok (count a.0, a.1))
-        (wanted_reads signs.Colon more.1)
-        (λ rest colons. read_then (inner Whole more.0 rest) (λ a. Ok (count a.0, a.1)) (spelled Whole more.0 rest)
-        (λ a is. gives (count a.0, a.1) (took_more t (took_new new (λ n is_new.
-        took_front colons (λ c colon. took is (λ us term. s.counted sign is_new colon term))))))))
+        >>= λ rest. inner Whole more.0 rest >>= λ a. Ok (aggregated kind a.0, a.1)) (new_reads makers.Loop names ts)
+        (λ more new. read_then (wanted signs.Colon more.1) (λ rest. inner Whole more.0 rest
+        >>= λ a. Ok (aggregated kind a.0, a.1)) (wanted_reads signs.Colon more.1)
+        (λ rest colons. read_then (inner Whole more.0 rest) (λ a. Ok (aggregated kind a.0, a.1))
+        (spelled Whole more.0 rest)
+        (λ a is. gives (aggregated kind a.0, a.1) (took_more t (took_new new (λ n is_new.
+        took_front colons (λ c colon. took is (λ us term.
+        aggregate_spelled kind more.0 t n c us a.0 word is_new colon term))))))))
 
     whole_reads : Operands s.whole (whole_read inner text names)
     whole_reads ts =
-        by_option (rest_after signs.Count ts) (λ rest. count_read inner text names rest) (plain_read inner text names ts)
-        (λ rest e. let f = after_front signs.Count ts rest e in
-        implied (count_read inner text names rest) (count_reads f.first rest f.sign) (λ x is. took_of f.split is))
-        (λ e. plain_reads ts)
+        by_option (aggregate_in text ts) (λ x. aggregate_read inner text names x.0 x.1) (plain_read inner text names ts)
+        (λ x e. let f = aggregate_front ts x e in
+        implied (aggregate_read inner text names x.0 x.1) (aggregate_reads x.0 f.first x.1 f.is)
+        (λ y is. took_of f.split is)) (λ e. plain_reads ts)
 
   part_reads : (room : ℕ) → Spelled (part room text)
   unfolding part

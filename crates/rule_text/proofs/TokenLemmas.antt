@@ -8,9 +8,10 @@ use Rattle.std.proofs.lemmas.Bool.Decides.{nat_tests}
 use Rattle.rule_text.specs.declared.lexemes.Class.{Class}
 use Rattle.rule_text.specs.declared.lexemes.Place.{Place}
 use Rattle.rule_text.specs.declared.lexemes.Lexeme.{Lexeme}
+use Rattle.rule_text.specs.declared.lexemes.Position.{Position}
 use Rattle.rule_text.specs.declared.lexemes.Token.{Token}
 use Rattle.rule_text.specs.declared.layout.Lines.{Lines}
-use Rattle.rule_text.specs.Tokens.{is_in, run, decimal, number_spelled, lexeme_at, past, tokens_at, lexemes_from, laid}
+use Rattle.rule_text.specs.Tokens.{is_in, run, decimal, number_spelled, lexeme_at, past, tokens_at, end_after, lexemes_from, laid}
 use Rattle.rule_text.specs.Tokens.{beyond, laid_from}
 
 -- ---- numbers
@@ -56,28 +57,33 @@ run_ends class text i within fails before =
 
 -- ---- the lexemes
 
-pub byte_skipped : (done : List Token) (skip : ℕ) (at : Place) (c : ℕ) (cs : List ℕ) → 0 < skip
-    → done ++ lexemes_from skip at (c ∷ cs) ≡ done ++ lexemes_from (skip - 1) (past at c) cs
-byte_skipped done zero at c cs some = absurd (omega arith)
-byte_skipped done (suc skip) at c cs some = let e : suc skip - 1 ≡ skip = omega arith in rw e refl
+pub byte_skipped : (done : List Token) (skip : ℕ) (end : Position) (at : Place) (c : ℕ) (cs : List ℕ) → 0 < skip
+    → done ++ lexemes_from skip end at (c ∷ cs) ≡ done ++ lexemes_from (skip - 1) end (past at c) cs
+byte_skipped done zero end at c cs some = absurd (omega arith)
+byte_skipped done (suc skip) end at c cs some = let e : suc skip - 1 ≡ skip = omega arith in rw e refl
 
-pub byte_read : (done more : List Token) (skip : ℕ) (at : Place) (c : ℕ) (cs : List ℕ) (here : Lexeme) → skip ≡ 0
-    → here ≡ lexeme_at at (c ∷ cs) → more ≡ done ++ tokens_at here.kind at
-    → done ++ lexemes_from skip at (c ∷ cs) ≡ more ++ lexemes_from here.further (past at c) cs
-byte_read done more skip at c cs here none is made =
-    ap (λ (k : ℕ). done ++ lexemes_from k at (c ∷ cs)) none
-    ∙ ap (λ (l : Lexeme). done ++ (tokens_at l.kind at ++ lexemes_from l.further (past at c) cs)) (sym is)
-    ∙ sym (append_assoc done (tokens_at here.kind at) (lexemes_from here.further (past at c) cs))
-    ∙ ap (λ (l : List Token). l ++ lexemes_from here.further (past at c) cs) (sym made)
+pub byte_read : (done more : List Token) (skip : ℕ) (end next : Position) (at : Place) (c : ℕ) (cs : List ℕ)
+    (here : Lexeme) → skip ≡ 0 → here ≡ lexeme_at at (c ∷ cs) → more ≡ done ++ tokens_at here.kind end at
+    → next ≡ end_after here.kind here.further end at
+    → done ++ lexemes_from skip end at (c ∷ cs) ≡ more ++ lexemes_from here.further next (past at c) cs
+byte_read done more skip end next at c cs here none is made ended =
+    let after : Lexeme → List Token =
+    λ l. lexemes_from l.further (end_after l.kind l.further end at) (past at c) cs in
+    ap (λ (k : ℕ). done ++ lexemes_from k end at (c ∷ cs)) none
+    ∙ ap (λ (l : Lexeme). done ++ (tokens_at l.kind end at ++ after l)) (sym is)
+    ∙ sym (append_assoc done (tokens_at here.kind end at) (after here))
+    ∙ ap (λ (l : List Token). l ++ after here) (sym made)
+    ∙ ap (λ (e : Position). more ++ lexemes_from here.further e (past at c) cs) (sym ended)
 
-pub next_byte : (text : List ℕ) (i skip next : ℕ) (at : Place) (all done more : List Token) → i < length text
+pub next_byte : (text : List ℕ) (i skip next : ℕ) (end later : Position) (at : Place) (all done more : List Token)
+    → i < length text
     → ((c : ℕ) (cs : List ℕ) → drop i text ≡ c ∷ cs
-    → done ++ lexemes_from skip at (c ∷ cs) ≡ more ++ lexemes_from next (past at c) cs)
-    → all ≡ done ++ lexemes_from skip at (drop i text)
-    → all ≡ more ++ lexemes_from next (past at (get_or text i 0)) (drop (i + 1) text)
-next_byte text i skip next at all done more within step before =
+    → done ++ lexemes_from skip end at (c ∷ cs) ≡ more ++ lexemes_from next later (past at c) cs)
+    → all ≡ done ++ lexemes_from skip end at (drop i text)
+    → all ≡ more ++ lexemes_from next later (past at (get_or text i 0)) (drop (i + 1) text)
+next_byte text i skip next end later at all done more within step before =
     let first : drop i text ≡ get_or text i 0 ∷ drop (i + 1) text = rw add-one (drop-cons text i 0 within) in
-    before ∙ ap (λ (l : List ℕ). done ++ lexemes_from skip at l) first ∙ step _ _ first
+    before ∙ ap (λ (l : List ℕ). done ++ lexemes_from skip end at l) first ∙ step _ _ first
 
 -- ---- lines
 

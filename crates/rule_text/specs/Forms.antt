@@ -8,7 +8,7 @@ use Rattle.rule_syntax.specs.declared.syntax.Assignment.TheVariants.{One, Also'}
 use Rattle.rule_syntax.specs.declared.syntax.Term.{Term}
 use Rattle.rule_syntax.specs.declared.syntax.Term.TheVariants.{Number, Nodes, Faults, Modulus, Me, Coin, LoopNode}
 use Rattle.rule_syntax.specs.declared.syntax.Term.TheVariants.{Local, Word, Message', Binary', Logical', Not', Choice'}
-use Rattle.rule_syntax.specs.declared.syntax.Term.TheVariants.{Count'}
+use Rattle.rule_syntax.specs.declared.syntax.Term.TheVariants.{Count', Least'}
 use Rattle.rule_syntax.specs.declared.syntax.Statement.{Statement}
 use Rattle.rule_syntax.specs.declared.syntax.Statement.TheVariants.{Nothing, Then', Let', Assign, If', For', SendAll}
 use Rattle.rule_syntax.specs.declared.syntax.Statement.TheVariants.{SendTo}
@@ -29,6 +29,7 @@ pub data TermForm : Type 0 where
   inverse : TermForm → TermForm
   choice : TermForm → TermForm → TermForm → TermForm
   count : TermForm → TermForm
+  least : TermForm → TermForm
 
 pub data AssignmentForm : Type 0 where
   one : Target → TermForm → AssignmentForm
@@ -60,6 +61,7 @@ term_form (Logical' c p a q b) = logical c (term_form a) (term_form b)
 term_form (Not' p a) = inverse (term_form a)
 term_form (Choice' p t q a r b) = choice (term_form t) (term_form a) (term_form b)
 term_form (Count' p t) = count (term_form t)
+term_form (Least' p t) = least (term_form t)
 
 abbrev pub assignment_form : Assignment → AssignmentForm
 assignment_form (One target e) = one target (term_form e)

@@ -10,7 +10,8 @@ use Rattle.rule_text.specs.declared.errors.ReadRuleError.{ReadRuleError}
 use Rattle.rule_text.specs.declared.errors.ReadRuleError.TheVariants.{At, Memory}
 use Rattle.rule_text.specs.declared.lexemes.Name.{Name}
 use Rattle.rule_text.specs.declared.lexemes.Kind.{Kind}
-use Rattle.rule_text.specs.declared.lexemes.Kind.TheVariants.{Named, Fault}
+use Rattle.rule_text.specs.declared.lexemes.Kind.TheVariants.{Named, Fault, LineStart, TextEnd}
+use Rattle.rule_text.specs.declared.lexemes.Position.{Position}
 use Rattle.rule_text.specs.declared.lexemes.Token.{Token}
 use Rattle.rule_text.specs.declared.scope.Meaning.{Meaning}
 use Rattle.rule_text.specs.declared.scope.Meaning.TheVariants.{Local, LoopNode, Word}
@@ -26,8 +27,24 @@ abbrev pub told_instead : RuleError → Kind → RuleError
 told_instead e (Fault other) = other
 told_instead e kind = e
 
+abbrev pub token_position : Token → Position
+token_position t = record { line = t.line; column = t.column }
+
+-- what is missing before the next line or the end of the text is missing where the last token ends
+abbrev pub missing_position : Kind → Token → Position
+missing_position LineStart t = t.last_end
+missing_position TextEnd t = t.last_end
+missing_position kind t = token_position t
+
+abbrev pub error_position : RuleError → Token → Position
+error_position Expected t = missing_position t.kind t
+error_position e t = token_position t
+
+abbrev pub error_of : RuleError → Position → ReadRuleError
+error_of e at = At e at.line at.column
+
 abbrev pub rule_error_at : RuleError → Token → ReadRuleError
-rule_error_at e t = At (told_instead e t.kind) t.line t.column
+rule_error_at e t = error_of (told_instead e t.kind) (error_position e t)
 
 -- the error at the first token
 abbrev pub error_in : RuleError → List Token → ReadRuleError

@@ -1,6 +1,6 @@
 -- The texts that spell a rule (docs/RULES.md, "Terms", "Statements" and "Blocks"): each case is a production of the
 -- grammar, over tokens, with the names in scope. Nothing here says how a text is read.
-use Rattle.std.specs.Prelude.{◌≡◌, ℕ, ◌<◌, IsFalse, List, [], ◌∷◌, ◌++◌, length, Some, None}
+use Rattle.std.specs.Prelude.{◌≡◌, ℕ, ◌<◌, IsFalse, List, [], ◌∷◌, ◌++◌, length, codes, Some, None}
 use Rattle.rule_syntax.specs.declared.syntax.Comparison.{Comparison}
 use Rattle.rule_syntax.specs.declared.syntax.Operator.TheVariants.{Compare}
 use Rattle.rule_syntax.specs.declared.syntax.Target.{Target}
@@ -20,11 +20,11 @@ use Rattle.rule_text.specs.declared.scope.TheConstants.{MAX_NAMES}
 use Rattle.rule_text.specs.declared.joints.Joint.{Joint}
 use Rattle.rule_text.specs.declared.joints.Chain.{Chain}
 use Rattle.rule_text.specs.declared.joints.Chain.TheVariants as chains
-use Rattle.rule_text.specs.Forms.{TermForm, number, message, binary, inverse, choice, count}
+use Rattle.rule_text.specs.Forms.{TermForm, number, message, binary, inverse, choice, count, least}
 use Rattle.rule_text.specs.Forms.{AssignmentForm, one, also}
 use Rattle.rule_text.specs.Forms.{StatementForm, nothing, sequence, let_in, assign, branch, each, send_all, send_to}
 use Rattle.rule_text.specs.Tokens.{tokens_of}
-use Rattle.rule_text.specs.Scopes.{meaning_of, scope_entry, next_meaning, words_of}
+use Rattle.rule_text.specs.Scopes.{letters_of, meaning_of, scope_entry, next_meaning, words_of}
 use Rattle.rule_text.specs.Terms.{joint_of, comparison_of, join, named_term, leaf_of}
 use Rattle.rule_text.specs.Statements.{RuleForm, has_target}
 
@@ -48,6 +48,12 @@ pub record IsNew (text : List ℕ) (maker : Maker) (known : List Entry) (t : Tok
   pub new : meaning_of text known name ≡ None
   pub room : length known < MAX_NAMES
   pub added : more ≡ known ++ scope_entry name (next_meaning maker known) ∷ []
+
+-- a name is written so
+pub record IsNameOf (text letters : List ℕ) (t : Token) : Type 0 where
+  pub name : Name
+  pub named : HasKind (Named name) t
+  pub written : letters_of text name ≡ letters
 
 -- ---- terms
 
@@ -83,6 +89,10 @@ pub data IsTerm (text : List ℕ) : Level → List Entry → List Token → Term
   counted : {names more : List Entry} {ts : List Token} {c n d : Token} {a : TermForm} → IsSign signs.Count c
       → IsNew text makers.Loop names n more → IsSign signs.Colon d → IsTerm text whole more ts a
       → IsTerm text whole names (c ∷ n ∷ d ∷ ts) (count a)
+  -- "least" name ":" term: this word isn't reserved
+  least_of : {names more : List Entry} {ts : List Token} {l n d : Token} {a : TermForm}
+      → IsNameOf text (codes "least") l → IsNew text makers.Loop names n more → IsSign signs.Colon d
+      → IsTerm text whole more ts a → IsTerm text whole names (l ∷ n ∷ d ∷ ts) (least a)
   -- a chain and one more operand: operators of one kind group from the left
   joined : {kind : Chain} {names : List Entry} {xs ys : List Token} {a b : TermForm} {joint : Joint} (o : Token)
       → IsTerm text (chain kind) names xs a → joint_of kind o.kind ≡ Some joint

@@ -1,6 +1,7 @@
 -- From tokens to terms (docs/RULES.md, "Terms"): the reading, or the first error.
-use Rattle.std.specs.Prelude.{ℕ, zero, suc, Bool, false, if◌then◌else◌, List, [], ◌∷◌, Option, Some, None}
-use Rattle.std.specs.Prelude.{option_map, Result, Ok, Err}
+use Rattle.std.specs.Prelude.{ℕ, zero, suc, Bool, true, false, if◌then◌else◌, ◌&&◌, List, [], ◌∷◌, Option, Some, None}
+use Rattle.std.specs.Prelude.{codes, option_map, Result, Ok, Err}
+use Rattle.std.specs.Str.{bytes_eq}
 use Rattle.node_env.specs.declared.env.TheConstants.{NO_MAIL}
 use Rattle.rule_syntax.specs.declared.syntax.Operation.TheVariants as operations
 use Rattle.rule_syntax.specs.declared.syntax.Comparison.{Comparison}
@@ -19,6 +20,8 @@ use Rattle.rule_text.specs.declared.scope.Meaning.{Meaning}
 use Rattle.rule_text.specs.declared.scope.Meaning.TheVariants.{Local, LoopNode, Word}
 use Rattle.rule_text.specs.declared.scope.Entry.{Entry}
 use Rattle.rule_text.specs.declared.scope.Maker.TheVariants as makers
+use Rattle.rule_text.specs.declared.aggregates.Aggregate.{Aggregate}
+use Rattle.rule_text.specs.declared.aggregates.Aggregate.TheVariants as aggregates
 use Rattle.rule_text.specs.declared.joints.Joint.{Joint}
 use Rattle.rule_text.specs.declared.joints.Joint.TheVariants.{By, With}
 use Rattle.rule_text.specs.declared.joints.Chain.{Chain}
@@ -28,8 +31,8 @@ use Rattle.rule_text.specs.declared.terms.Grade.TheVariants.{Whole, Inverse}
 use Rattle.rule_text.specs.declared.terms.TheConstants.{MAX_PARTS}
 use Rattle.rule_text.specs.Signs.{is_same}
 use Rattle.rule_text.specs.Forms.{TermForm, number, nodes, faults, modulus, me, coin, loop_node, local, word, message}
-use Rattle.rule_text.specs.Forms.{binary, logical, inverse, choice, count}
-use Rattle.rule_text.specs.Scopes.{Reading, ◌>>=◌, rule_error_at, error_in, meaning_of, new_name}
+use Rattle.rule_text.specs.Forms.{binary, logical, inverse, choice, count, least}
+use Rattle.rule_text.specs.Scopes.{Reading, ◌>>=◌, rule_error_at, error_in, letters_of, meaning_of, new_name}
 
 -- ---- signs
 
@@ -97,6 +100,35 @@ joint_in chain (t ∷ ts) = option_map (λ joint. (joint, ts)) (joint_of chain t
 abbrev pub comparison_in : List Token → Option (Comparison × List Token)
 comparison_in [] = None
 comparison_in (t ∷ ts) = option_map (λ comparison. (comparison, ts)) (comparison_of t.kind)
+
+-- `least` is no reserved word
+abbrev pub is_least : List ℕ → Kind → Bool
+is_least text (Named name) = bytes_eq (letters_of text name) (codes "least")
+is_least text kind = false
+
+abbrev pub is_named : Kind → Bool
+is_named (Named name) = true
+is_named kind = false
+
+abbrev pub begins_with_name : List Token → Bool
+begins_with_name [] = false
+begins_with_name (t ∷ ts) = is_named t.kind
+
+-- the tokens after the word `least`: it is one if it is the first token, and the second is a name
+abbrev pub after_least : List ℕ → List Token → Option (List Token)
+after_least text [] = None
+after_least text (t ∷ ts) = if is_least text t.kind && begins_with_name ts then Some ts else None
+
+-- the aggregate that begins here, and the tokens after its word
+abbrev pub aggregate_in : List ℕ → List Token → Option (Aggregate × List Token)
+aggregate_in text ts = elim (rest_after signs.Count ts) [
+  | Some rest ↦ Some (aggregates.Count, rest)
+  | None ↦ option_map (λ rest. (aggregates.Least, rest)) (after_least text ts)
+]
+
+abbrev pub aggregated : Aggregate → TermForm → TermForm
+aggregated aggregates.Count a = count a
+aggregated aggregates.Least a = least a
 
 abbrev pub join : Joint → TermForm → TermForm → TermForm
 join (By operator) a b = binary operator a b
@@ -213,18 +245,19 @@ abbrev pub choice_rest : Inner → List ℕ → List Entry → TermForm → Read
 choice_rest inner text names x ts =
     elim (rest_after signs.If ts) [ Some rest ↦ choice_read inner text names x rest | None ↦ Ok (x, ts) ]
 
-abbrev pub count_read : Inner → List ℕ → List Entry → Reader
-count_read inner text names ts =
+-- a name, a colon and a term
+abbrev pub aggregate_read : Inner → List ℕ → List Entry → Aggregate → Reader
+aggregate_read inner text names aggregate ts =
     new_name text makers.Loop names ts >>= λ more. wanted signs.Colon more.1
-    >>= λ rest. inner Whole more.0 rest >>= λ a. Ok (count a.0, a.1)
+    >>= λ rest. inner Whole more.0 rest >>= λ a. Ok (aggregated aggregate a.0, a.1)
 
 abbrev pub plain_read : Inner → List ℕ → List Entry → Reader
 plain_read inner text names ts =
     chain_read inner text names chains.Either ts >>= λ x. choice_rest inner text names x.0 x.1
 
 abbrev pub whole_read : Inner → List ℕ → List Entry → Reader
-whole_read inner text names ts = elim (rest_after signs.Count ts) [
-  | Some rest ↦ count_read inner text names rest
+whole_read inner text names ts = elim (aggregate_in text ts) [
+  | Some x ↦ aggregate_read inner text names x.0 x.1
   | None ↦ plain_read inner text names ts
 ]
 

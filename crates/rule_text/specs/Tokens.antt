@@ -8,6 +8,7 @@ use Rattle.rule_text.specs.declared.signs.Sign.{Sign}
 use Rattle.rule_text.specs.declared.signs.Sign.TheVariants as signs
 use Rattle.rule_text.specs.declared.lexemes.Kind.{Kind}
 use Rattle.rule_text.specs.declared.lexemes.Kind.TheVariants.{Number, Named, Mark, Fault, LineStart, TextEnd}
+use Rattle.rule_text.specs.declared.lexemes.Position.{Position}
 use Rattle.rule_text.specs.declared.lexemes.Token.{Token}
 use Rattle.rule_text.specs.declared.lexemes.Place.{Place}
 use Rattle.rule_text.specs.declared.lexemes.Lexeme.{Lexeme}
@@ -122,22 +123,33 @@ past at c = record {
   spaced = (c == 10) || (at.spaced && (c == 32));
 }
 
-abbrev pub token : Kind → Place → Token
-token kind at = record { kind = kind; line = at.line; column = at.column; spaced = at.spaced }
+-- a token, after one with this end
+abbrev pub token : Kind → Position → Place → Token
+token kind end at =
+    record { kind = kind; line = at.line; column = at.column; spaced = at.spaced; last_end = end }
 
-abbrev pub tokens_at : Option Kind → Place → List Token
-tokens_at (Some kind) at = token kind at ∷ []
-tokens_at None at = []
+abbrev pub tokens_at : Option Kind → Position → Place → List Token
+tokens_at (Some kind) end at = token kind end at ∷ []
+tokens_at None end at = []
 
--- the tokens from a place on, if this many bytes belong to a token before it
-abbrev pub lexemes_from : ℕ → Place → List ℕ → List Token
-lexemes_from skip at [] = token TextEnd at ∷ []
-lexemes_from (suc skip) at (c ∷ cs) = lexemes_from skip (past at c) cs
-lexemes_from zero at (c ∷ cs) =
-    let here = lexeme_at at (c ∷ cs) in tokens_at here.kind at ++ lexemes_from here.further (past at c) cs
+-- the end of the last token, after what begins at a place: its first byte, and further ones
+abbrev pub end_after : Option Kind → ℕ → Position → Place → Position
+end_after (Some kind) further end at = record { line = at.line; column = at.column + (further + 1) }
+end_after None further end at = end
+
+-- the tokens from a place on, if this many bytes belong to a token before it, and the last token has this end
+abbrev pub lexemes_from : ℕ → Position → Place → List ℕ → List Token
+lexemes_from skip end at [] = token TextEnd end at ∷ []
+lexemes_from (suc skip) end at (c ∷ cs) = lexemes_from skip end (past at c) cs
+lexemes_from zero end at (c ∷ cs) =
+    let here = lexeme_at at (c ∷ cs) in
+    tokens_at here.kind end at ++ lexemes_from here.further (end_after here.kind here.further end at) (past at c) cs
+
+abbrev pub first_end : Position
+first_end = record { line = 1; column = 1 }
 
 abbrev pub lexemes_of : List ℕ → List Token
-lexemes_of text = lexemes_from 0 first_place text
+lexemes_of text = lexemes_from 0 first_end first_place text
 
 -- ---- lines
 
@@ -153,7 +165,8 @@ abbrev pub begins_line : Lines → Token → Bool
 begins_line s t = not (s.line == t.line) && (s.depth == 0)
 
 abbrev pub of_kind : Kind → Token → Token
-of_kind kind t = record { kind = kind; line = t.line; column = t.column; spaced = t.spaced }
+of_kind kind t =
+    record { kind = kind; line = t.line; column = t.column; spaced = t.spaced; last_end = t.last_end }
 
 abbrev pub first_lines : Lines
 first_lines = record { line = 0; depth = 0; tokens = 0; lines = 0 }

@@ -1,6 +1,6 @@
 //! Operators and what they join.
 ghost use Rattle.std.specs.Prelude.{◌≡◌, IfOk, Ok, Err, IfErr, Some, None, MatchOption, option_map};
-ghost use Rattle.rule_text.specs.Forms.{term_form, message, inverse, choice, count};
+ghost use Rattle.rule_text.specs.Forms.{term_form, message, inverse, choice};
 ghost use Rattle.rule_text.specs.Forms.{binary as binary_form, logical as logical_form};
 ghost use Rattle.rule_text.specs.Terms.{is_of_sign, rest_after, wanted, joint_in, comparison_in, product_joint, sum_joint};
 ghost use Rattle.rule_text.specs.Terms.{joint_by};
@@ -225,13 +225,6 @@ pub fn inverse_of(alloc: Global, a: Term) -> Result<Term, AllocError>
 {
     let condition = Box::new(alloc, a)?;
     Ok(Term::Not(condition))
-}
-
-pub fn count_of(alloc: Global, a: Term) -> Result<Term, AllocError>
-    ensures { IfOk result (λ t. term_form t ≡ count (term_form a)) }
-{
-    let condition = Box::new(alloc, a)?;
-    Ok(Term::Count(condition))
 }
 
 /// Returns `x if t else y`.

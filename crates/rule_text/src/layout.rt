@@ -57,6 +57,7 @@ fn of_kind(kind: Kind, t: Token) -> Token
         line: t.line,
         column: t.column,
         spaced: t.spaced,
+        last_end: t.last_end,
     }
 }
 

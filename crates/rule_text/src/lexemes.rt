@@ -2,7 +2,7 @@
 ghost use Rattle.std.specs.Prelude.{◌≡◌, ℕ, List, ◌∷◌, ◌≤◌, ◌<◌, ◌+◌, ◌^◌, ◌++◌, length, IfOk, OnOk};
 ghost use Rattle.rule_text.specs.Tokens.{is_in, run, number_spelled, number_kind, word_kind, number_lexeme, word_from};
 ghost use Rattle.rule_text.specs.Tokens.{word_lexeme};
-ghost use Rattle.rule_text.specs.Tokens.{lexeme_of_sign, sign_lexeme, lexeme_at, past, token, tokens_at};
+ghost use Rattle.rule_text.specs.Tokens.{lexeme_of_sign, sign_lexeme, lexeme_at, past, token, tokens_at, end_after};
 ghost use Rattle.rule_text.specs.Tokens.{is_space, is_digit, begins_name, lexemes_from, lexemes_of};
 
 use crate::errors::RuleError;
@@ -31,13 +31,22 @@ pub enum Kind {
     TextEnd,
 }
 
-/// A token at its place. `spaced` is true if only spaces precede it in its line.
+/// A line and a column of a text.
+#[derive(Clone, Copy)]
+pub struct Position {
+    pub line: usize,
+    pub column: usize,
+}
+
+/// A token at its place. `spaced` is true if only spaces precede it in its line. The token before it ends before
+/// `last_end`.
 #[derive(Clone, Copy)]
 pub struct Token {
     pub kind: Kind,
     pub line: usize,
     pub column: usize,
     pub spaced: bool,
+    pub last_end: Position,
 }
 
 /// The place of a byte, the byte before it, and whether only spaces precede it in its line.
@@ -55,6 +64,13 @@ pub struct Place {
 pub struct Lexeme {
     pub kind: Option<Kind>,
     pub further: usize,
+}
+
+/// How many bytes from a place on belong to the last token or comment before it, and where the last token ends.
+#[derive(Clone, Copy)]
+pub struct Scan {
+    pub skip: usize,
+    pub end: Position,
 }
 
 /// Bytes that stand together: digits, the letters of words, or all that is on the line.
@@ -149,7 +165,8 @@ fn word_kind(from: usize, word: &[u8]) -> Kind
 }
 
 fn number_lexeme(text: &[u8]) -> Lexeme
-    ensures { result ≡ number_lexeme text.now }
+    ensures lexeme { result ≡ number_lexeme text.now }
+    ensures within { result.further + 1 < 2 ^ 63 }
 {
     let letters = run(Class::Digits, text);
     Lexeme {
@@ -171,7 +188,8 @@ fn word_at(at: Place, word: &[u8]) -> Kind
 
 #[tactic(auto, unfolding(crate::specs::Tokens::word_lexeme))]
 fn word_lexeme(at: Place, text: &[u8]) -> Lexeme
-    ensures { result ≡ word_lexeme at text.now }
+    ensures lexeme { result ≡ word_lexeme at text.now }
+    ensures within { result.further + 1 < 2 ^ 63 }
 {
     let letters = run(Class::Letters, text);
     Lexeme {
@@ -181,7 +199,8 @@ fn word_lexeme(at: Place, text: &[u8]) -> Lexeme
 }
 
 fn marked(sign: Sign) -> Lexeme
-    ensures { result ≡ lexeme_of_sign sign }
+    ensures lexeme { result ≡ lexeme_of_sign sign }
+    ensures within { result.further + 1 < 2 ^ 63 }
 {
     Lexeme {
         kind: Some(Kind::Mark(sign)),
@@ -190,7 +209,8 @@ fn marked(sign: Sign) -> Lexeme
 }
 
 fn sign_lexeme(text: &[u8]) -> Lexeme
-    ensures { result ≡ sign_lexeme text.now }
+    ensures lexeme { result ≡ sign_lexeme text.now }
+    ensures within { result.further + 1 < 2 ^ 63 }
 {
     if let Some(sign) = sign_of(&text[..text.len().min(2)]) {
         return marked(sign);
@@ -206,7 +226,8 @@ fn sign_lexeme(text: &[u8]) -> Lexeme
 
 /// Returns what begins with the first byte of a text.
 fn lexeme_at(at: Place, text: &[u8]) -> Lexeme
-    ensures { result ≡ lexeme_at at text.now }
+    ensures lexeme { result ≡ lexeme_at at text.now }
+    ensures within { result.further + 1 < 2 ^ 63 }
 {
     match text {
         [] => Lexeme {
@@ -243,6 +264,8 @@ pub const FIRST_PLACE: Place = Place {
     spaced: true,
 };
 
+const FIRST_END: Position = Position { line: 1, column: 1 };
+
 /// Returns the place after a byte.
 fn past(at: Place, byte: u8) -> Place
     requires offset { at.offset < 2 ^ 63 }
@@ -260,47 +283,77 @@ fn past(at: Place, byte: u8) -> Place
     }
 }
 
-fn token_at(kind: Kind, at: Place) -> Token
-    ensures { result ≡ token kind at }
+/// Returns a token at a place, after one with this end.
+fn token_at(kind: Kind, end: Position, at: Place) -> Token
+    ensures { result ≡ token kind end at }
 {
     Token {
         kind,
         line: at.line,
         column: at.column,
         spaced: at.spaced,
+        last_end: end,
+    }
+}
+
+/// Returns where the last token ends after what begins at a place. Before that it ended here.
+fn end_after(here: Lexeme, end: Position, at: Place) -> Position
+    requires column { at.column ≤ 2 ^ 63 }
+    requires within { here.further + 1 < 2 ^ 63 }
+    ensures { result ≡ end_after here.kind here.further end at }
+{
+    match here.kind {
+        Some(_) => Position {
+            line: at.line,
+            column: at.column + (here.further + 1),
+        },
+        None => end,
     }
 }
 
 /// Appends the token that begins at a place, if one does.
-fn push_kind(tokens: &mut Vec<Token>, kind: Option<Kind>, at: Place) -> Result<(), AllocError>
-    ensures { OnOk result (tokens.new.items ≡ tokens.old.items ++ tokens_at kind at) }
+fn push_kind(
+    tokens: &mut Vec<Token>,
+    kind: Option<Kind>,
+    end: Position,
+    at: Place,
+) -> Result<(), AllocError>
+    ensures { OnOk result (tokens.new.items ≡ tokens.old.items ++ tokens_at kind end at) }
 {
     match kind {
         Some(kind) => {
-            tokens.push(token_at(kind, at))?;
+            tokens.push(token_at(kind, end, at))?;
             Ok(())
         }
         None => Ok(()),
     }
 }
 
-/// Reads one more byte, the first of `rest`. Returns how many further bytes belong to a token.
+/// Reads one more byte, the first of `rest`. Returns what is known after it.
 #[tactic(auto, using(crate::proofs::TokenLemmas::byte_skipped))]
 fn push_byte(
     tokens: &mut Vec<Token>,
-    skip: usize,
+    scan: Scan,
     at: Place,
     rest: &[u8],
-) -> Result<usize, AllocError>
+) -> Result<Scan, AllocError>
+    requires { at.column ≤ 2 ^ 63 }
     ensures { IfOk result (λ next. (c : ℕ) (cs : List ℕ) → rest.now ≡ c ∷ cs →
-        tokens.old.items ++ lexemes_from skip at (c ∷ cs) ≡ tokens.new.items ++ lexemes_from next (past at c) cs) }
+        tokens.old.items ++ lexemes_from scan.skip scan.end at (c ∷ cs)
+        ≡ tokens.new.items ++ lexemes_from next.skip next.end (past at c) cs) }
 {
-    if skip > 0 {
-        return Ok(skip - 1);
+    if scan.skip > 0 {
+        return Ok(Scan {
+            skip: scan.skip - 1,
+            end: scan.end,
+        });
     }
     let here = lexeme_at(at, rest);
-    push_kind(tokens, here.kind, at)?;
-    Ok(here.further)
+    push_kind(tokens, here.kind, scan.end, at)?;
+    Ok(Scan {
+        skip: here.further,
+        end: end_after(here, scan.end, at),
+    })
 }
 
 /// Returns the tokens of a text, without the starts of lines.
@@ -310,11 +363,14 @@ pub fn lexemes(alloc: Global, text: &[u8]) -> Result<Vec<Token>, AllocError>
 {
     let mut tokens = Vec::new(alloc);
     let mut at = FIRST_PLACE;
-    let mut skip = 0;
+    let mut scan = Scan {
+        skip: 0,
+        end: FIRST_END,
+    };
     for (i, byte) in text.iter().enumerate() {
-        skip = push_byte(&mut tokens, skip, at, &text[i..])?;
+        scan = push_byte(&mut tokens, scan, at, &text[i..])?;
         at = past(at, *byte);
     }
-    push_kind(&mut tokens, Some(Kind::TextEnd), at)?;
+    push_kind(&mut tokens, Some(Kind::TextEnd), scan.end, at)?;
     Ok(tokens)
 }

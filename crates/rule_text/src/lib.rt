@@ -22,6 +22,7 @@
 //! ```
 #![tactic(auto)]
 
+mod aggregates;
 mod assignments;
 mod errors;
 mod joints;

@@ -7,11 +7,12 @@ use crate::lexemes::{Kind, Token, lexemes};
 use crate::signs::Sign;
 use std::alloc::{AllocError, Global};
 
-/// Where a token is: where a statement can begin, in a count before its colon, or elsewhere.
+/// Where a token is: where a statement can begin, in `count` or `least` before its colon, after a name, or elsewhere.
 #[derive(Clone, Copy)]
 pub enum Spot {
     Front,
     Counting,
+    AfterName,
     Inside,
 }
 
@@ -26,6 +27,11 @@ fn spot_after(spot: Spot, kind: Kind) -> Spot
         },
         Kind::Mark(Sign::Count) => Spot::Counting,
         Kind::LineStart => Spot::Front,
+        Kind::Named(_) => match spot {
+            Spot::Counting => Spot::Counting,
+            Spot::AfterName => Spot::Counting,
+            _ => Spot::AfterName,
+        },
         _ => match spot {
             Spot::Counting => Spot::Counting,
             _ => Spot::Inside,

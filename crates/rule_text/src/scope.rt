@@ -3,9 +3,10 @@ ghost use Rattle.std.specs.Prelude.{◌≡◌, ◌≤◌, ◌++◌, [], ◌∷�
 ghost use Rattle.rule_text.specs.Scopes.{letters_of, is_same_name, found_entry, meaning_of, means_local, is_loop, is_word};
 ghost use Rattle.rule_text.specs.Scopes.{next_meaning, added, words_of};
 ghost use Rattle.rule_text.specs.Scopes.{TellsError, named_entry, new_name, rule_error_at, error_in, told_instead};
+ghost use Rattle.rule_text.specs.Scopes.{error_position};
 
 use crate::errors::{ReadRuleError, RuleError};
-use crate::lexemes::{Kind, Name, Token};
+use crate::lexemes::{Kind, Name, Position, Token};
 use std::alloc::{AllocError, Global};
 
 /// The most names in scope at once.
@@ -44,13 +45,29 @@ fn told(error: RuleError, kind: Kind) -> RuleError
     }
 }
 
+/// Returns the place of an error at a token. What is missing before the next line or the end of the text is missing
+/// where the last token ends.
+fn position_of(error: RuleError, t: Token) -> Position
+    ensures { result ≡ error_position error t }
+{
+    let is_missing = matches!(error, RuleError::Expected);
+    match t.kind {
+        Kind::LineStart | Kind::TextEnd if is_missing => t.last_end,
+        _ => Position {
+            line: t.line,
+            column: t.column,
+        },
+    }
+}
+
 pub fn error_at(error: RuleError, t: Token) -> ReadRuleError
     ensures { result ≡ rule_error_at error t }
 {
+    let Position { line, column } = position_of(error, t);
     ReadRuleError::At {
         error: told(error, t.kind),
-        line: t.line,
-        column: t.column,
+        line,
+        column,
     }
 }
 
@@ -69,7 +86,7 @@ pub fn error_in(error: RuleError, tokens: &[Token]) -> ReadRuleError
 }
 
 /// Returns the bytes of a name.
-fn letters_of(text: &[u8], name: Name) -> &[u8]
+pub fn letters_of(text: &[u8], name: Name) -> &[u8]
     ensures { result.now ≡ letters_of text.now name }
 {
     let rest = &text[name.from.min(text.len())..];

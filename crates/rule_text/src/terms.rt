@@ -4,12 +4,13 @@ ghost use Rattle.rule_text.specs.Scopes.{TellsError};
 ghost use Rattle.rule_text.specs.Forms.{term_form};
 ghost use Rattle.rule_text.specs.Terms.{leaf, named_atom, bracketed, message_read, atom};
 ghost use Rattle.rule_text.specs.Terms.{compare_read, inverse_read, operand_read, chain_read};
-ghost use Rattle.rule_text.specs.Terms.{choice_read, count_read, whole_read, part, term_read};
+ghost use Rattle.rule_text.specs.Terms.{choice_read, aggregate_read, whole_read, part, term_read};
 
+use crate::aggregates::{Aggregate, aggregate_in, aggregated};
 use crate::errors::{ReadRuleError, RuleError};
 use crate::joints::{
-    Chain, after, binary_of, choice_of, comparison_in, count_of, inverse_of, joined, joint_in,
-    leaf_of, message_of, named_term, wanted,
+    Chain, after, binary_of, choice_of, comparison_in, inverse_of, joined, joint_in, leaf_of,
+    message_of, named_term, wanted,
 };
 use crate::layout::MAX_LINE_TOKENS;
 use crate::lexemes::{Kind, Token};
@@ -224,23 +225,25 @@ fn choice<'a>(
     Ok((choice_of(alloc, test, first, second)?, rest))
 }
 
-/// Reads what follows `count`.
+/// Reads what follows the word of an aggregate.
 #[cycle(terms)]
-fn counted<'a>(
+fn aggregate<'a>(
     alloc: Global,
     text: &[u8],
     names: &[Entry],
     tokens: &'a [Token],
+    kind: Aggregate,
     room: u32,
 ) -> Result<(Term, &'a [Token]), ReadRuleError>
-    ensures read { IfOk result (λ x. count_read (part room text.now) text.now names.now tokens.now
+    ensures read { IfOk result (λ x. aggregate_read (part room text.now) text.now names.now kind tokens.now
         ≡ Ok (term_form x.0, x.1.now)) }
-    ensures error { IfErr result (TellsError (count_read (part room text.now) text.now names.now tokens.now)) }
+    ensures error { IfErr result (TellsError
+        (aggregate_read (part room text.now) text.now names.now kind tokens.now)) }
 {
     let (more, rest) = new_name(alloc, text, Maker::Loop, names, tokens)?;
     let rest = wanted(Sign::Colon, rest)?;
     let (condition, rest) = part(alloc, text, &more, rest, Grade::Whole, room)?;
-    Ok((count_of(alloc, condition)?, rest))
+    Ok((aggregated(alloc, kind, condition)?, rest))
 }
 
 #[cycle(terms)]
@@ -255,8 +258,8 @@ fn whole<'a>(
         ≡ Ok (term_form x.0, x.1.now)) }
     ensures error { IfErr result (TellsError (whole_read (part room text.now) text.now names.now tokens.now)) }
 {
-    if let Some(inside) = after(Sign::Count, tokens) {
-        return counted(alloc, text, names, inside, room);
+    if let Some((kind, inside)) = aggregate_in(text, tokens) {
+        return aggregate(alloc, text, names, inside, kind, room);
     }
     let (first, rest) = chain(alloc, text, names, tokens, Chain::Either, room)?;
     match after(Sign::If, rest) {

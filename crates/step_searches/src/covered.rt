@@ -14,6 +14,8 @@ pub enum Uncovered {
     Loop,
     /// The rule sends to one node.
     Receiver,
+    /// The rule has a least message.
+    Least,
     /// There is a word or a free name beyond those of the step.
     Name,
 }
@@ -63,6 +65,7 @@ fn cover_term(t: &Term, words: u32, loops: u32) -> Result<(), Uncovered>
             }
             cover_term(c, words, loops + 1)
         }
+        Term::Least(_) => Err(Uncovered::Least),
     }
 }
 

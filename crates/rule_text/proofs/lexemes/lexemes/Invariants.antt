@@ -4,7 +4,7 @@ use Rattle.rule_text.proofs.lexemes.lexemes.Given as goal
 
 abbrev pub invariant-loop-i : goal.invariant-loop-i
 invariant-loop-i l = record {
-  read : lexemes_of l.text ≡ l.tokens.items ++ lexemes_from l.skip l.at (drop l.i l.text);
+  read : lexemes_of l.text ≡ l.tokens.items ++ lexemes_from l.scan.skip l.scan.end l.at (drop l.i l.text);
   offset : l.at.offset ≡ l.i;
   line : l.at.line ≤ l.i + 1;
   column : l.at.column ≤ l.i + 1;

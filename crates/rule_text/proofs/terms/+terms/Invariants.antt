@@ -32,8 +32,8 @@ decreases-inverse l = 20 * l.room + 8
 abbrev pub decreases-choice : goal.decreases-choice
 decreases-choice l = 20 * l.room + 13
 
-abbrev pub decreases-counted : goal.decreases-counted
-decreases-counted l = 20 * l.room + 13
+abbrev pub decreases-aggregate : goal.decreases-aggregate
+decreases-aggregate l = 20 * l.room + 13
 
 abbrev pub decreases-whole : goal.decreases-whole
 decreases-whole l = 20 * l.room + 14

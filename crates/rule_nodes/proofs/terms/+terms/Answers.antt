@@ -1,0 +1,94 @@
+use Rattle.std.proofs.Common.{◌≡◌, ◌+◌, ◌≤◌, IfOk, List, length, subst, ap, arith, refl}
+use Rattle.bpf_insn.specs.declared.forms.Insn.{Insn}
+use Rattle.rule_nodes.specs.Code.{term_code}
+use Rattle.rule_nodes.proofs.Lengths.{error_longer, passed_on, message_part, left_part, right_part, left_within, right_within, count_part, least_part, test_part, tests_part}
+use Rattle.rule_nodes.proofs.Loops.{tally_kept, count_made, least_made}
+use Rattle.rule_nodes.proofs.terms.+terms.Goals as goal
+
+pub term-returns-in_err-index-in-Message-clause-long : goal.term-returns-in_err-index-in-Message-clause-long
+term-returns-in_err-index-in-Message-clause-long t c =
+    passed_on c.from_residual-in_err-index-in-Message.result c.in_err-index-in-Message.field-0.0 _ _
+    (message_part _ _ _ _ _ _ _ _ c.in-Message.is c.deref.ensures) c.in_err-index-in-Message.ensures.long
+    c.from_residual-in_err-index-in-Message.ensures.1
+
+pub term-returns-in_err-right-in-Binary-clause-long : goal.term-returns-in_err-right-in-Binary-clause-long
+term-returns-in_err-right-in-Binary-clause-long t c =
+    passed_on c.from_residual-in_err-right-in-Binary.result c.in_err-right-in-Binary.field-0.0 _ _
+    (right_part _ _ _ _ _ _ _ _ _ _ _ _ _ _ _ c.in-Binary.is c.deref-in-Binary-3.ensures
+    c.depth_behind_of-behind.ensures.is c.beside_operand.ensures c.deref-in-Binary.ensures c.deref-in-Binary-2.ensures)
+    c.in_err-right-in-Binary.ensures.long c.from_residual-in_err-right-in-Binary.ensures.1
+
+pub term-returns-in_err-left-in-Binary-clause-long : goal.term-returns-in_err-left-in-Binary-clause-long
+term-returns-in_err-left-in-Binary-clause-long t c =
+    passed_on c.from_residual-in_err-left-in-Binary.result c.in_err-left-in-Binary.field-0.0 _ _
+    (left_part _ _ _ _ _ _ _ _ _ _ _ c.in-Binary.is c.deref-in-Binary-4.ensures)
+    c.in_err-left-in-Binary.ensures.long c.from_residual-in_err-left-in-Binary.ensures.1
+
+pub term-binary_of-requires-clause-left : goal.term-binary_of-requires-clause-left
+term-binary_of-requires-clause-left t c =
+    left_within _ _ _ _ _ _ _ _ _ _ _ c.in-Binary.is c.deref-in-Binary-5.ensures c.requires.memory c.requires.fits
+
+pub term-binary_of-requires-clause-right : goal.term-binary_of-requires-clause-right
+term-binary_of-requires-clause-right t c =
+    right_within _ _ _ _ _ _ _ _ _ _ _ c.in-Binary.is c.deref-in-Binary-6.ensures c.requires.memory c.requires.fits
+
+pub term-returns-in_err-code-in-Count-clause-long : goal.term-returns-in_err-code-in-Count-clause-long
+term-returns-in_err-code-in-Count-clause-long t c =
+    passed_on c.from_residual-in_err-code-in-Count.result c.in_err-code-in-Count.field-0.0 _ _
+    (count_part _ _ _ _ _ _ _ _ c.in-Count.is c.deref-in-Count.ensures) c.in_err-code-in-Count.ensures.long
+    c.from_residual-in_err-code-in-Count.ensures.1
+
+pub term-returns-in_err-code-in-Least-clause-long : goal.term-returns-in_err-code-in-Least-clause-long
+term-returns-in_err-code-in-Least-clause-long t c =
+    passed_on c.from_residual-in_err-code-in-Least.result c.in_err-code-in-Least.field-0.0 _ _
+    (least_part _ _ _ _ _ _ _ _ c.in-Least.is c.deref-in-Least.ensures) c.in_err-code-in-Least.ensures.long
+    c.from_residual-in_err-code-in-Least.ensures.1
+
+pub term-returns-in_ok-by_value_of-in-Count-clause-code : goal.term-returns-in_ok-by_value_of-in-Count-clause-code
+term-returns-in_ok-by_value_of-in-Count-clause-code t c =
+    let total : c.in_ok-by_value_of-in-Count.field-0.items ≡ term_code c.args.t.now c.args.sizes c.args.loops.now
+    c.args.depth c.args.purpose = count_made _ _ _ _ _ _ _ _ _ _ c.in_ok-code-in-Count.ensures.code c.deref-in-Count.ensures
+    c.in-Count.is c.in_ok-by_value_of-in-Count.ensures in
+    subst (λ (x : List Insn). IfOk c.short-in-Count.result (λ y. y.items ≡ x)) total c.short-in-Count.ensures.code
+
+pub term-returns-in_ok-by_value_of-in-Count-clause-long : goal.term-returns-in_ok-by_value_of-in-Count-clause-long
+term-returns-in_ok-by_value_of-in-Count-clause-long t c =
+    let total : c.in_ok-by_value_of-in-Count.field-0.items ≡ term_code c.args.t.now c.args.sizes c.args.loops.now
+    c.args.depth c.args.purpose = count_made _ _ _ _ _ _ _ _ _ _ c.in_ok-code-in-Count.ensures.code c.deref-in-Count.ensures
+    c.in-Count.is c.in_ok-by_value_of-in-Count.ensures in
+    let same : length c.in_ok-by_value_of-in-Count.field-0.items ≡ length (term_code c.args.t.now c.args.sizes
+    c.args.loops.now c.args.depth c.args.purpose) = ap length total in
+    error_longer c.short-in-Count.result _ _ (omega (arith, same)) c.short-in-Count.ensures.long
+
+pub term-returns-in_ok-by_value_of-in-Least-clause-code : goal.term-returns-in_ok-by_value_of-in-Least-clause-code
+term-returns-in_ok-by_value_of-in-Least-clause-code t c =
+    let total : c.in_ok-by_value_of-in-Least.field-0.items ≡ term_code c.args.t.now c.args.sizes c.args.loops.now
+    c.args.depth c.args.purpose = least_made _ _ _ _ _ _ _ _ _ _ c.in_ok-code-in-Least.ensures.code c.deref-in-Least.ensures
+    c.in-Least.is c.in_ok-by_value_of-in-Least.ensures in
+    subst (λ (x : List Insn). IfOk c.short-in-Least.result (λ y. y.items ≡ x)) total c.short-in-Least.ensures.code
+
+pub term-returns-in_ok-by_value_of-in-Least-clause-long : goal.term-returns-in_ok-by_value_of-in-Least-clause-long
+term-returns-in_ok-by_value_of-in-Least-clause-long t c =
+    let total : c.in_ok-by_value_of-in-Least.field-0.items ≡ term_code c.args.t.now c.args.sizes c.args.loops.now
+    c.args.depth c.args.purpose = least_made _ _ _ _ _ _ _ _ _ _ c.in_ok-code-in-Least.ensures.code c.deref-in-Least.ensures
+    c.in-Least.is c.in_ok-by_value_of-in-Least.ensures in
+    let same : length c.in_ok-by_value_of-in-Least.field-0.items ≡ length (term_code c.args.t.now c.args.sizes
+    c.args.loops.now c.args.depth c.args.purpose) = ap length total in
+    error_longer c.short-in-Least.result _ _ (omega (arith, same)) c.short-in-Least.ensures.long
+
+pub tally_over-returns-in_err-test-clause-long : goal.tally_over-returns-in_err-test-clause-long
+tally_over-returns-in_err-test-clause-long t c =
+    passed_on c.from_residual-in_err-test.result c.in_err-test.field-0.0 _ _
+    (test_part c.args.kind c.args.c.now c.args.c.now c.args.sizes c.args.loops.now _ _ c.args.depth _ _ c.tally_test_of-skip.ensures refl c.in_ok-inner.ensures
+    c.deref.ensures.value c.loop-node-test.true) c.in_err-test.ensures.long
+    c.from_residual-in_err-test.ensures.1
+
+pub tally_over-returns-in_err-codes-clause-long : goal.tally_over-returns-in_err-codes-clause-long
+tally_over-returns-in_err-codes-clause-long t c =
+    let more : c.loop-node.node + 1 ≤ c.args.sizes.nodes = omega (arith, c.loop-node-test.true) in
+    passed_on c.from_residual-in_err-codes.result c.in_err-codes.field-0.0 _ _
+    (tests_part c.args.kind c.args.c.now c.args.sizes c.args.loops.now c.args.depth _ _ more
+    (tally_kept c.args.kind c.args.c.now c.args.c.now c.args.sizes c.args.loops.now _ _ c.args.depth _ _ _ _ _ _ _ c.place_of-place.ensures c.tally_test_of-skip.ensures refl
+    c.in_ok-inner.ensures c.deref.ensures.value c.in_ok-test.ensures.code
+    c.deref-in-loop-node.ensures.value c.in_ok-tallied.ensures c.loop-node.invariant.code))
+    c.in_err-codes.ensures.long c.from_residual-in_err-codes.ensures.1

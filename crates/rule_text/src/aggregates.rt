@@ -1,0 +1,97 @@
+//! Aggregates over the nodes: `count` and `least`.
+ghost use Rattle.std.specs.Prelude.{◌≡◌, IfOk, Some, None, MatchOption};
+ghost use Rattle.rule_text.specs.Forms.{term_form, count, least};
+ghost use Rattle.rule_text.specs.Terms.{is_least, is_named, begins_with_name, after_least, aggregate_in, aggregated};
+
+use crate::joints::after;
+use crate::lexemes::{Kind, Token};
+use crate::scope::letters_of;
+use crate::signs::Sign;
+use rule_syntax::Term;
+use std::alloc::{AllocError, Global};
+
+/// What a term makes of the nodes for which a condition holds: their number, or the least message from one.
+#[derive(Clone, Copy)]
+pub enum Aggregate {
+    Count,
+    Least,
+}
+
+/// Returns true for a name with the letters of `least`, which is no reserved word.
+fn is_least(text: &[u8], kind: Kind) -> bool
+    ensures { result ≡ is_least text.now kind }
+{
+    match kind {
+        Kind::Named(name) => letters_of(text, name) == "least".as_bytes(),
+        _ => false,
+    }
+}
+
+fn is_named(kind: Kind) -> bool
+    ensures { result ≡ is_named kind }
+{
+    match kind {
+        Kind::Named(_) => true,
+        _ => false,
+    }
+}
+
+fn begins_with_name(tokens: &[Token]) -> bool
+    ensures { result ≡ begins_with_name tokens.now }
+{
+    match tokens {
+        [first, ..] => is_named(first.kind),
+        [] => false,
+    }
+}
+
+/// Returns the tokens after the word `least`: it is one if it is the first token, and the second is a name.
+fn after_least<'a>(text: &[u8], tokens: &'a [Token]) -> Option<&'a [Token]>
+    ensures { MatchOption result (after_least text.now tokens.now ≡ None)
+        (λ rest. after_least text.now tokens.now ≡ Some rest.now) }
+{
+    let (first, rest) = tokens.split_first()?;
+    if is_least(text, first.kind) && begins_with_name(rest) {
+        Some(rest)
+    } else {
+        None
+    }
+}
+
+/// Returns the aggregate that begins here, and the tokens after its word.
+pub fn aggregate_in<'a>(text: &[u8], tokens: &'a [Token]) -> Option<(Aggregate, &'a [Token])>
+    ensures { MatchOption result (aggregate_in text.now tokens.now ≡ None)
+        (λ x. aggregate_in text.now tokens.now ≡ Some (x.0, x.1.now)) }
+{
+    if let Some(rest) = after(Sign::Count, tokens) {
+        return Some((Aggregate::Count, rest));
+    }
+    match after_least(text, tokens) {
+        Some(rest) => Some((Aggregate::Least, rest)),
+        None => None,
+    }
+}
+
+fn count_of(alloc: Global, a: Term) -> Result<Term, AllocError>
+    ensures { IfOk result (λ t. term_form t ≡ count (term_form a)) }
+{
+    let condition = Box::new(alloc, a)?;
+    Ok(Term::Count(condition))
+}
+
+fn least_of(alloc: Global, a: Term) -> Result<Term, AllocError>
+    ensures { IfOk result (λ t. term_form t ≡ least (term_form a)) }
+{
+    let condition = Box::new(alloc, a)?;
+    Ok(Term::Least(condition))
+}
+
+/// Returns the aggregate with this condition.
+pub fn aggregated(alloc: Global, aggregate: Aggregate, a: Term) -> Result<Term, AllocError>
+    ensures { IfOk result (λ t. term_form t ≡ aggregated aggregate (term_form a)) }
+{
+    match aggregate {
+        Aggregate::Count => count_of(alloc, a),
+        Aggregate::Least => least_of(alloc, a),
+    }
+}
