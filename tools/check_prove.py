@@ -5,7 +5,7 @@ Each step of their claims that has a certificate must be proved, and each other 
 that a small bench refutes must not be proved, whatever its certificate is: the certificates are changed word by word, and
 those of other steps are given to it. Nor must a step be proved if the state of its certificate doesn't begin it. A
 certificate that ends early, or has a wrong word, must be refused with the number of the word, and claims with an error
-with line and column. The certificates of the clock are checked within a bound on time. If z3 is installed, a certificate
+with line and column. Of a rule outside the fragment it must be said why. The certificates of the clock are checked within a bound on time. If z3 is installed, a certificate
 that tools/all_sizes.py writes must prove its step. PROGRAM is as for check_rows.py.
 """
 import pathlib
@@ -23,6 +23,15 @@ from built_program import TOP, answer, named_program, on_all_processors, tell
 SEED, CHANGES, SECONDS = 9669, 120, 0.5
 HOLDS, NONE = "holds for all n, f, M; it begins at n = 4, f = 1, M = ", "not proved: no certificate"
 UNBEGUN = "not proved: the state of the certificate doesn't begin it"
+UNJUDGED = "not proved: the certificate can't be judged: the rule "
+# A step that a certificate proves of `clock = 0`, and rules of which none is judged, with the reason.
+ZERO_CLAIM = "set Zero: p.clock == 0\nstep any -> Zero\n"
+ZERO_CERTIFICATE = "step 2\nbegins 2 1 2 free 0 sent 0 words 1 0\nuses 0\nrefute split 0 sum 1 0 1 sum 1 0 1\n"
+OUTSIDE = [
+    ("for j: clock = 0\nsend clock\n", "has a loop"),
+    ("let x = least j: mail[j] < M\nclock = 0\nsend clock\n", "has a least message"),
+    ("clock = 0\nsend clock to 1\n", "sends to one node"),
+]
 # The steps that have a certificate, with the M at which each begins, and those that have none.
 EXAMPLES = {
     "clock": ({6: 2, 10: 2, 11: 2, 19: 2, 20: 3, 21: 2, 22: 2}, []),
@@ -250,6 +259,23 @@ def refused_faults(program):
     return in_a_room(faults)
 
 
+def outside_faults(program):
+    """Why no certificate of a rule is judged. Of the rule without that part it is."""
+
+    def faults(room, item):
+        rule, reason = item
+        example = Example("clock")
+        example.rule, example.claims, example.certificates = rule, ZERO_CLAIM, ZERO_CERTIFICATE
+        told = proved(program, room, example)
+        if told.status != 4 or lines_of(told).get(2) != f"{UNJUDGED}{reason}":
+            yield f"{rule!r}: {told}"
+        example.rule = "clock = 0\nsend clock\n"
+        if not lines_of(proved(program, room, example)).get(2, "").startswith("holds for all n, f, M"):
+            yield f"{ZERO_CLAIM!r} isn't proved"
+
+    return in_a_room(faults)
+
+
 def written_faults(program):
     """The certificate that the tool writes of one step."""
 
@@ -275,10 +301,11 @@ def main():
     found += on_all_processors(begun_faults(program), unbegun)
     found += on_all_processors(change_faults(program), range(CHANGES))
     found += on_all_processors(refused_faults(program), refused)
+    found += on_all_processors(outside_faults(program), OUTSIDE)
     deep = [("claims", it) for it in LONGEST] + [("certificate", it) for it in DEEPEST]
     found += on_all_processors(depth_faults(program), deep)
     counts = {"examples": len(EXAMPLES), "wrong steps": len(WRONG), "no beginnings": len(unbegun), "changes": CHANGES}
-    counts |= {"refusals": len(refused), "at limits": len(deep)}
+    counts |= {"refusals": len(refused), "outside": len(OUTSIDE), "at limits": len(deep)}
     if shutil.which("z3"):
         found += on_all_processors(written_faults(program), [11])
         counts["written"] = 1
