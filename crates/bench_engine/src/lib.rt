@@ -1,6 +1,7 @@
 //! Runs pulses of a shared bench, and exports the runs of `bench_workers` (docs/THREADS.md).
 //!
-//! - `pulse` returns the record of a pulse that is posted on the board.
+//! - `pulse` returns the record of a pulse that is posted on the board. `pulse_with` also tells whether a thread
+//!   couldn't be started.
 //! - `run_events` and `run_events_watched` run lists of events.
 //!
 //! ```
@@ -48,8 +49,8 @@ mod engine_error;
 mod shared_pulse;
 
 pub use bench_workers::{
-    Event, Gate, MAX_WORKERS, Open, Run, RunFault, RunRefusal, Shown, Stop, WatchFault, Watcher,
-    WorkError, laws, run_events, run_events_on, run_events_watched,
+    Event, Gate, MAX_WORKERS, Open, Run, RunFault, RunRefusal, Shown, Stop, ThreadStarts,
+    WatchFault, Watcher, WorkError, laws, run_events, run_events_on, run_events_watched,
 };
 pub use engine_error::EngineError;
-pub use shared_pulse::pulse;
+pub use shared_pulse::{pulse, pulse_with};

@@ -1,17 +1,21 @@
 //! The engine beside the loaders, on one bench.
 
-ghost use Rattle.std.specs.Prelude.{◌≡◌, ◌+◌, ◌≤◌, None, All, IfOk, IsTrue, vec_len, Contains};
+ghost use Rattle.std.specs.Prelude.{◌≡◌, ◌≢◌, ◌+◌, ◌≤◌, None, Some, All, IfErr, IfOk, IsTrue, false, vec_len, Contains};
 ghost use Rattle.bench_core.specs.Replay.{StagesAccepted};
 ghost use Rattle.bench_shared.specs.Ends.{HasReplay};
 ghost use Rattle.bench_shared.specs.declared.shared.TheConstants.{MAX_LOADERS};
 ghost use Rattle.bench_workers.specs.declared.tasks.TheConstants.{MAX_WORKERS};
+ghost use Rattle.bench_workers.specs.ThreadStarts.{has_failed};
+ghost use Rattle.bench_workers.specs.declared.work_error.WorkError.TheVariants.{NoThread};
+ghost use Rattle.bench_engine.specs.declared.engine_error.EngineError.TheVariants.{Work};
+ghost use Rattle.bench_stress.specs.declared.stop.Stop.TheVariants.{Thread};
 ghost use Rattle.bench_stress.specs.Stressed.{HasEntries, nearest, stressed_setup};
 
 use crate::loaders::{Programs, accept_both, begin, join_all};
 use crate::setup::setup;
 use crate::stop::{Stop, first_of};
 use bench_core::{CloseError, OpenError};
-use bench_engine::{EngineError, MAX_WORKERS, Open, WorkError, pulse};
+use bench_engine::{EngineError, MAX_WORKERS, Open, ThreadStarts, WorkError, pulse_with};
 use bench_shared::{Board, EnginePass, Finished, LoaderPass, MAX_LOADERS, SharedBench, WatchPass};
 use parameters::StressOptions;
 use std::alloc::Global;
@@ -25,7 +29,9 @@ use std::thread::{Scope, Threads};
 const COINS: [u32; 4] = [1, 1, 1, 1];
 
 /// Returns what is told of a pulse that is refused.
-fn of_pulse(error: EngineError) -> Stop {
+fn of_pulse(error: EngineError) -> Stop
+    ensures { error ≢ Work NoThread → result ≢ Thread }
+{
     match error {
         EngineError::Open(OpenError::Memory)
         | EngineError::Work(WorkError::Memory)
@@ -46,6 +52,7 @@ fn all_pulses<B: Ledger, C: Ledger, R: Threads + Wait + Sync>(
     board: &Board,
     engine: &mut EnginePass<B, C>,
     watch: &mut WatchPass,
+    starts: &mut ThreadStarts,
 ) -> Option<Stop>
     requires some { 1 ≤ options.workers }
     requires few { options.workers ≤ MAX_WORKERS }
@@ -53,9 +60,10 @@ fn all_pulses<B: Ledger, C: Ledger, R: Threads + Wait + Sync>(
     requires watcher { watch.old.board ≡ board.now }
     requires paid { engine.old.owed ≡ None }
     ensures paid { engine.new.owed ≡ None }
+    ensures thread { has_failed starts.new ≡ false → result ≢ Some Thread }
 {
     for _pulse in 0..options.pulses {
-        match pulse(
+        match pulse_with(
             rt,
             alloc,
             shared,
@@ -64,6 +72,7 @@ fn all_pulses<B: Ledger, C: Ledger, R: Threads + Wait + Sync>(
             &Open,
             options.workers,
             &COINS,
+            starts,
         ) {
             Ok(_told) => {
                 let _seen = board.look(watch);
@@ -87,6 +96,7 @@ fn run_in<'s, E, B: Ledger + Send + Sync, C: Ledger + Send + Sync, R: Threads + 
     engine: &mut EnginePass<B, C>,
     watch: &mut WatchPass,
     passes: Vec<LoaderPass<B, C>>,
+    starts: &mut ThreadStarts,
 ) -> (Vec<LoaderPass<B, C>>, Option<Stop>)
     requires some { 1 ≤ options.workers }
     requires few { options.workers ≤ MAX_WORKERS }
@@ -94,15 +104,20 @@ fn run_in<'s, E, B: Ledger + Send + Sync, C: Ledger + Send + Sync, R: Threads + 
     requires watcher { watch.old.board ≡ board.now }
     requires paid { engine.old.owed ≡ None }
     ensures paid { engine.new.owed ≡ None }
+    ensures thread { has_failed starts.new ≡ false → result.1 ≢ Some Thread }
 {
-    let (begun, refused) = begin(scope, rt, alloc, shared, programs, passes, options.loads);
+    let loads = options.loads;
+    let (begun, refused) = begin(scope, rt, alloc, shared, programs, passes, loads, starts);
     let stopped = match refused {
-        None => all_pulses(rt, alloc, options, shared, board, engine, watch),
+        None => all_pulses(rt, alloc, options, shared, board, engine, watch, starts),
         Some(_) => None,
     };
     let (passes, failed) = join_all(rt, alloc, begun);
     (passes, first_of(refused, first_of(stopped, failed)))
 }
+
+/// The engine's pass and those of the loaders after their work, and why they stopped, if they did.
+type Worked<B, C> = (EnginePass<B, C>, Vec<LoaderPass<B, C>>, Option<Stop>);
 
 /// Returns the loaders in threads of their own, and the engine beside them on the caller's.
 fn beside<B: Ledger + Send + Sync, C: Ledger + Send + Sync, R: Threads + Wait + Sync>(
@@ -115,26 +130,30 @@ fn beside<B: Ledger + Send + Sync, C: Ledger + Send + Sync, R: Threads + Wait + 
     engine: EnginePass<B, C>,
     watch: WatchPass,
     passes: Vec<LoaderPass<B, C>>,
-) -> (EnginePass<B, C>, Vec<LoaderPass<B, C>>, Option<Stop>)
+    starts: &mut ThreadStarts,
+) -> Worked<B, C>
     requires some { 1 ≤ options.workers }
     requires few { options.workers ≤ MAX_WORKERS }
     requires board { engine.board ≡ board.now }
     requires watcher { watch.board ≡ board.now }
     requires paid { engine.owed ≡ None }
     ensures paid { result.0.owed ≡ None }
+    ensures thread { has_failed starts.new ≡ false → result.2 ≢ Some Thread }
 {
-    thread::scope(
+    let before = *starts;
+    let (worked, after) = thread::scope(
         thread::scope_env(),
         rt,
-        move |scope| -> (EnginePass<B, C>, Vec<LoaderPass<B, C>>, Option<Stop>)
+        move |scope| -> (Worked<B, C>, ThreadStarts)
             requires some { 1 ≤ options.workers }
             requires few { options.workers ≤ MAX_WORKERS }
             requires board { engine.board ≡ board.now }
             requires watcher { watch.board ≡ board.now }
             requires paid { engine.owed ≡ None }
-            ensures paid { result.0.owed ≡ None }
+            ensures paid { result.0.0.owed ≡ None }
+            ensures thread { has_failed result.1 ≡ false → result.0.2 ≢ Some Thread }
         {
-            let (mut engine, mut watch) = (engine, watch);
+            let (mut engine, mut watch, mut starts) = (engine, watch, before);
             let (passes, stop) = run_in(
                 scope,
                 rt,
@@ -146,10 +165,13 @@ fn beside<B: Ledger + Send + Sync, C: Ledger + Send + Sync, R: Threads + Wait + 
                 &mut engine,
                 &mut watch,
                 passes,
+                &mut starts,
             );
-            (engine, passes, stop)
+            ((engine, passes, stop), starts)
         },
-    )
+    );
+    *starts = after;
+    worked
 }
 
 /// Returns the one watcher.
@@ -182,6 +204,7 @@ fn hands<B: Ledger + Send + Sync, C: Ledger + Send + Sync, R: Threads + Wait + S
     options: StressOptions,
     entries: Blank,
     closes: Blank,
+    starts: &mut ThreadStarts,
 ) -> Result<Finished, Stop>
     requires entries { (entries.name ≡ B.name) × (entries.parts ≡ B.parts) × (entries.parts ≡ options.loaders + 1) }
     requires closes { (closes.name ≡ C.name) × (closes.parts ≡ C.parts) × (closes.parts ≡ 1) }
@@ -190,6 +213,7 @@ fn hands<B: Ledger + Send + Sync, C: Ledger + Send + Sync, R: Threads + Wait + S
     ensures replays { IfOk result (HasReplay stressed_setup) }
     ensures accepted { IfOk result (All StagesAccepted) }
     ensures entries { IfOk result (HasEntries options.loaders options.loads options.pulses) }
+    ensures thread { has_failed starts.new ≡ false → IfErr result (λ stop. stop ≢ Thread) }
 {
     let (shape, rule) = setup();
     let programs = accept_both(alloc, shape, rule)?;
@@ -199,7 +223,7 @@ fn hands<B: Ledger + Send + Sync, C: Ledger + Send + Sync, R: Threads + Wait + S
     };
     let watch = only(watchers);
     let (engine, passes, stop) = beside(
-        rt, alloc, options, &shared, &programs, &board, engine, watch, passes,
+        rt, alloc, options, &shared, &programs, &board, engine, watch, passes, starts,
     );
     if let Some(stop) = stop {
         return Err(stop);
@@ -214,9 +238,9 @@ fn hands<B: Ledger + Send + Sync, C: Ledger + Send + Sync, R: Threads + Wait + S
     }
 }
 
-/// Lets loaders and an engine work on one bench at once, in threads of their own, and gives the bench's history if
-/// it is what their receipts say, and has the entries that the options ask for. A number of loaders or workers that is
-/// none is the nearest that is one.
+/// Lets loaders and an engine work on one bench at once, in threads of their own. Returns the bench's history if
+/// it is what their receipts say, and has the entries that the options ask for. Clamps the numbers of loaders and workers
+/// to their ranges.
 pub fn stress_bench<R: Threads + Wait + Sync>(
     rt: &R,
     alloc: Global,
@@ -226,6 +250,21 @@ pub fn stress_bench<R: Threads + Wait + Sync>(
     ensures accepted { IfOk result (All StagesAccepted) }
     ensures entries { IfOk result (HasEntries (nearest options.loaders) options.loads options.pulses) }
 {
+    stress_bench_with(rt, alloc, options, &mut ThreadStarts::new())
+}
+
+/// Does as [`stress_bench`], and tells whether a start of a thread failed.
+pub fn stress_bench_with<R: Threads + Wait + Sync>(
+    rt: &R,
+    alloc: Global,
+    options: StressOptions,
+    starts: &mut ThreadStarts,
+) -> Result<Finished, Stop>
+    ensures replays { IfOk result (HasReplay stressed_setup) }
+    ensures accepted { IfOk result (All StagesAccepted) }
+    ensures entries { IfOk result (HasEntries (nearest options.loaders) options.loads options.pulses) }
+    ensures thread { has_failed starts.new ≡ false → IfErr result (λ stop. stop ≢ Thread) }
+{
     let loaders = options.loaders.clamp(1, MAX_LOADERS);
     let workers = options.workers.clamp(1, MAX_WORKERS);
     let options = StressOptions {
@@ -234,5 +273,5 @@ pub fn stress_bench<R: Threads + Wait + Sync>(
         ..options
     };
     let (entries, closes) = (Blank::new(u64::from(loaders) + 1), Blank::new(1));
-    hands::<Brand, Brand, R>(rt, alloc, options, entries, closes)
+    hands::<Brand, Brand, R>(rt, alloc, options, entries, closes, starts)
 }

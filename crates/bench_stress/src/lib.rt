@@ -1,6 +1,7 @@
 //! Runs loaders in threads of their own beside an engine on one bench (docs/THREADS.md, "`stress`").
 //!
-//! - `stress_bench` returns the history of what they did.
+//! - `stress_bench` returns the history of what they did. `stress_bench_with` also tells whether a thread couldn't be
+//!   started.
 //!
 //! ```
 //! use bench_stress::{StressOptions, stress_bench};
@@ -21,7 +22,8 @@ mod loaders;
 mod setup;
 mod stop;
 
-pub use hands::stress_bench;
+pub use bench_engine::ThreadStarts;
+pub use hands::{stress_bench, stress_bench_with};
 pub use parameters::StressOptions;
 pub use setup::{FAULTS, MEMORY, MODULUS, NODES};
 pub use stop::Stop;

@@ -1,10 +1,13 @@
 //! The loaders, each in a thread of its own.
 
-ghost use Rattle.std.specs.Prelude.{◌≡◌};
+ghost use Rattle.std.specs.Prelude.{◌≡◌, ◌≢◌, false, IfErr, Some};
+ghost use Rattle.bench_stress.specs.declared.stop.Stop.TheVariants.{Thread};
+ghost use Rattle.bench_workers.specs.ThreadStarts.{has_failed};
 
 use crate::setup::NODES;
 use crate::stop::{Stop, first_of};
 use bench_core::StageError;
+use bench_engine::ThreadStarts;
 use bench_shared::{LoaderPass, SharedBench};
 use bpf_insn::Program;
 use bpf_verify::{VerifiedProgram, VerifyError, verify};
@@ -22,7 +25,10 @@ pub(crate) struct Programs {
     echo: VerifiedProgram,
 }
 
-fn accepted(alloc: Global, program: &Program, shape: Shape) -> Result<VerifiedProgram, Stop> {
+/// Returns the program that the verifier accepts.
+fn accepted(alloc: Global, program: &Program, shape: Shape) -> Result<VerifiedProgram, Stop>
+    ensures { IfErr result (λ stop. stop ≢ Thread) }
+{
     match verify(alloc, program, shape) {
         Ok(program) => Ok(program),
         Err(VerifyError::Memory) => Err(Stop::Memory),
@@ -30,8 +36,10 @@ fn accepted(alloc: Global, program: &Program, shape: Shape) -> Result<VerifiedPr
     }
 }
 
+/// Returns what loaders load.
 pub(crate) fn accept_both(alloc: Global, shape: Shape, rule: ClockRule) -> Result<Programs, Stop>
     requires { rule.nodes ≡ shape.nodes }
+    ensures { IfErr result (λ stop. stop ≢ Thread) }
 {
     let clock = dolev_welch(alloc, shape, rule).map_err(|_| Stop::Memory)?;
     let echo = echo(alloc, shape).map_err(|_| Stop::Memory)?;
@@ -49,17 +57,26 @@ fn load_one<B: Ledger, C: Ledger, R: Wait>(
     pass: &mut LoaderPass<B, C>,
     node: u32,
     program: &VerifiedProgram,
-) -> Result<(), Stop> {
+) -> Result<(), StageError> {
     let Ok(copy) = program.copy() else {
-        return Err(Stop::Memory);
+        return Err(StageError::Memory);
     };
     match shared.load(rt, alloc, pass, node, copy) {
         Ok(()) => Ok(()),
-        Err((_, StageError::Memory)) => Err(Stop::Memory),
-        Err((_, StageError::BadNode)) => Err(Stop::Mismatch),
-        Err((_, StageError::OtherShape)) => Err(Stop::Mismatch),
-        Err((_, StageError::BadImage)) => Err(Stop::Mismatch),
-        Err((_, StageError::HistoryFull)) => Err(Stop::Mismatch),
+        Err((_, error)) => Err(error),
+    }
+}
+
+/// Returns what is told of a load that is refused.
+fn of_load(error: StageError) -> Stop
+    ensures { result ≢ Thread }
+{
+    match error {
+        StageError::Memory => Stop::Memory,
+        StageError::BadNode
+        | StageError::OtherShape
+        | StageError::BadImage
+        | StageError::HistoryFull => Stop::Mismatch,
     }
 }
 
@@ -72,7 +89,7 @@ fn load_all<B: Ledger, C: Ledger, R: Wait>(
     pass: LoaderPass<B, C>,
     number: u32,
     loads: u32,
-) -> (LoaderPass<B, C>, Option<Stop>) {
+) -> Loaded<B, C> {
     let mut pass = pass;
     for turn in 0..loads {
         let node = (number % NODES + turn % NODES) % NODES;
@@ -81,15 +98,15 @@ fn load_all<B: Ledger, C: Ledger, R: Wait>(
         } else {
             &programs.echo
         };
-        if let Err(stop) = load_one(rt, alloc, shared, &mut pass, node, program) {
-            return (pass, Some(stop));
+        if let Err(error) = load_one(rt, alloc, shared, &mut pass, node, program) {
+            return (pass, Some(error));
         }
     }
     (pass, None)
 }
 
-/// A loader's pass, and why it stopped, where it did.
-pub(crate) type Loaded<B, C> = (LoaderPass<B, C>, Option<Stop>);
+/// A loader's pass, and why a load was refused, if one was.
+pub(crate) type Loaded<B, C> = (LoaderPass<B, C>, Option<StageError>);
 
 /// Starts a thread for each loader, up to the first that can't be started.
 pub(crate) fn begin<'s, E, B: Ledger + Send + Sync, C: Ledger + Send + Sync, R: Wait + Sync>(
@@ -100,14 +117,17 @@ pub(crate) fn begin<'s, E, B: Ledger + Send + Sync, C: Ledger + Send + Sync, R: 
     programs: &'s Programs,
     passes: Vec<LoaderPass<B, C>>,
     loads: u32,
-) -> (Vec<JoinHandle<Loaded<B, C>>>, Option<Stop>) {
+    starts: &mut ThreadStarts,
+) -> (Vec<JoinHandle<Loaded<B, C>>>, Option<Stop>)
+    ensures { has_failed starts.new ≡ false → result.1 ≢ Some Thread }
+{
     let Ok(mut begun) = Vec::with_capacity(alloc, passes.len()) else {
         return (Vec::new(alloc), Some(Stop::Memory));
     };
     let mut number: u32 = 0;
     for pass in passes {
         let job = move || load_all(rt, alloc, shared, programs, pass, number, loads);
-        match scope.spawn(job) {
+        match starts.start(scope, job) {
             Ok(handle) => begun.push_reserved(handle),
             Err(_) => return (begun, Some(Stop::Thread)),
         }
@@ -121,12 +141,14 @@ pub(crate) fn join_all<B: Ledger, C: Ledger, R: Threads>(
     rt: &R,
     alloc: Global,
     begun: Vec<JoinHandle<Loaded<B, C>>>,
-) -> (Vec<LoaderPass<B, C>>, Option<Stop>) {
+) -> (Vec<LoaderPass<B, C>>, Option<Stop>)
+    ensures { result.1 ≢ Some Thread }
+{
     let mut passes = Vec::new(alloc);
     let mut stopped = None;
     for handle in begun {
-        let (pass, stop) = handle.join(rt);
-        stopped = first_of(stopped, stop);
+        let (pass, refused) = handle.join(rt);
+        stopped = first_of(stopped, refused.map(of_load));
         if passes.push(pass).is_err() {
             stopped = first_of(stopped, Some(Stop::Memory));
         }

@@ -1,4 +1,6 @@
 //! Why hands stop.
+ghost use Rattle.std.specs.Prelude.{◌≡◌, ◌≢◌, Some};
+ghost use Rattle.bench_stress.specs.declared.stop.Stop.TheVariants.{Thread};
 
 /// Why the hands didn't come to an end that is told by the history. Of several the first is told.
 #[derive(Clone, Copy, Debug, PartialEq, Eq)]
@@ -11,7 +13,9 @@ pub enum Stop {
 }
 
 /// Returns the one of two that is told.
-pub(crate) fn first_of(one: Option<Stop>, other: Option<Stop>) -> Option<Stop> {
+pub(crate) fn first_of(one: Option<Stop>, other: Option<Stop>) -> Option<Stop>
+    ensures { one ≢ Some Thread → other ≢ Some Thread → result ≢ Some Thread }
+{
     match (one, other) {
         (None, stop) | (stop, None) => stop,
         (Some(Stop::Memory), _) | (_, Some(Stop::Memory)) => Some(Stop::Memory),

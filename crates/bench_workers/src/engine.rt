@@ -16,6 +16,7 @@ ghost use Rattle.bench_workers.specs.Runs.{IsEventFault, IsRefusalOf, IsRun};
 use crate::event::{Event, Run, RunFault, RunRefusal};
 use crate::gate::Gate;
 use crate::tasks::run_tasks;
+use crate::thread_starts::ThreadStarts;
 use crate::watched::run_events_watched;
 use crate::watcher::{Nobody, WatchFault};
 use crate::work_error::WorkError;
@@ -77,7 +78,7 @@ pub(crate) fn pulse<R: Threads + Wait + Sync, G: Gate + Sync>(
         Err(OpenError::HistoryFull) => return Err(RunRefusal::HistoryFull),
         Err(OpenError::Memory) => return Err(RunRefusal::Memory),
     };
-    let dones = match run_tasks(rt, alloc, gate, workers, tasks) {
+    let dones = match run_tasks(rt, alloc, gate, workers, tasks, &mut ThreadStarts::new()) {
         Ok(dones) => dones,
         Err(error) => return Err(of_work(error)),
     };

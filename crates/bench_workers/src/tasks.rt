@@ -1,12 +1,14 @@
 //! The tasks of a pulse, run by its workers.
-ghost use Rattle.std.specs.Prelude.{◌≡◌, ◌≢◌, ◌≤◌, true, IfOk, IfErr, OnOk};
+ghost use Rattle.std.specs.Prelude.{◌≡◌, ◌≢◌, ◌≤◌, true, false, IfOk, IfErr, OnOk};
 ghost use Rattle.bench_core.specs.Tasks.{RanEach};
 ghost use Rattle.bench_workers.specs.declared.work_error.WorkError.TheVariants.{GateShut, NoThread};
+ghost use Rattle.bench_workers.specs.ThreadStarts.{has_failed};
 ghost use Rattle.bench_workers.specs.declared.tasks.TheConstants.{MAX_WORKERS};
 
 use crate::batch::run_batch;
 use crate::deal::deal;
 use crate::gate::Gate;
+use crate::thread_starts::ThreadStarts;
 use crate::waiting::Waiting;
 use crate::work_error::WorkError;
 use crate::workers::{join_all, start_all};
@@ -20,33 +22,44 @@ use std::thread::{Scope, Threads};
 pub const MAX_WORKERS: u32 = 8;
 
 /// Runs each task once, by this many workers, each of which enters the gate once before its first task. One worker is
-/// the caller's thread; for more, that many threads are started, and all are joined before this answers.
+/// the caller's thread; for more, that many threads are started, and all are joined before this answers. `starts` tells
+/// whether a start failed.
 pub fn run_tasks<R: Threads + Wait + Sync, G: Gate + Sync>(
     rt: &R,
     alloc: Global,
     gate: &G,
     workers: u32,
     tasks: Vec<NodeTask>,
+    starts: &mut ThreadStarts,
 ) -> Result<Vec<NodeDone>, WorkError>
     requires some { 1 ≤ workers }
     requires few { workers ≤ MAX_WORKERS }
     ensures ran { IfOk result (λ dones. RanEach tasks.items dones.items) }
     ensures open { G.always gate.now ≡ true → IfErr result (λ e. e ≢ GateShut) }
     ensures alone { workers ≡ 1 → IfErr result (λ e. e ≢ NoThread) }
+    ensures thread { has_failed starts.new ≡ false → IfErr result (λ e. e ≢ NoThread) }
 {
     if workers == 1 {
         return run_alone(alloc, gate, tasks);
     }
-    thread::scope(
+    let before = *starts;
+    let (given, after) = thread::scope(
         thread::scope_env(),
         rt,
-        |scope| -> Result<Vec<NodeDone>, WorkError>
+        |scope| -> (Result<Vec<NodeDone>, WorkError>, ThreadStarts)
             requires some { 1 ≤ workers }
             requires few { workers ≤ MAX_WORKERS }
-            ensures ran { IfOk result (λ dones. RanEach tasks.items dones.items) }
-            ensures open { G.always gate.entry.now ≡ true → IfErr result (λ e. e ≢ GateShut) }
-        { run_in(scope, rt, alloc, gate, workers, tasks) },
-    )
+            ensures ran { IfOk result.0 (λ dones. RanEach tasks.items dones.items) }
+            ensures open { G.always gate.entry.now ≡ true → IfErr result.0 (λ e. e ≢ GateShut) }
+            ensures thread { has_failed result.1 ≡ false → IfErr result.0 (λ e. e ≢ NoThread) }
+        {
+            let mut starts = before;
+            let given = run_in(scope, rt, alloc, gate, workers, tasks, &mut starts);
+            (given, starts)
+        },
+    );
+    *starts = after;
+    given
 }
 
 /// Runs each task once, on the caller's thread.
@@ -77,14 +90,16 @@ fn run_in<'s, E, R: Threads, G: Gate + Sync>(
     gate: &'s G,
     workers: u32,
     tasks: Vec<NodeTask>,
+    starts: &mut ThreadStarts,
 ) -> Result<Vec<NodeDone>, WorkError>
     requires some { 1 ≤ workers }
     requires few { workers ≤ MAX_WORKERS }
     ensures ran { IfOk result (λ dones. RanEach tasks.items dones.items) }
     ensures open { G.always gate.now ≡ true → IfErr result (λ e. e ≢ GateShut) }
+    ensures thread { has_failed starts.new ≡ false → IfErr result (λ e. e ≢ NoThread) }
 {
     let batches = deal(alloc, tasks, workers as usize)?;
-    let (started, refused) = start_all(scope, alloc, gate, batches);
+    let (started, refused) = start_all(scope, alloc, gate, batches, starts);
     let joined = join_all(rt, alloc, started);
     match refused {
         Some(error) => Err(error),

@@ -1,13 +1,15 @@
 //! The workers of a pulse, on threads of a scope.
-ghost use Rattle.std.specs.Prelude.{◌≡◌, ◌≢◌, ◌≤◌, ◌++◌, [], true, All, length, map, vec_len, vec_capacity};
+ghost use Rattle.std.specs.Prelude.{◌≡◌, ◌≢◌, ◌≤◌, ◌++◌, [], true, false, All, length, map, vec_len, vec_capacity};
 ghost use Rattle.std.specs.Prelude.{IfOk, IfErr, IfSome, IfNone, IsSome, IsOk, OnOk};
 ghost use Rattle.std.specs.List.{flat_map};
 ghost use Rattle.bench_workers.specs.inner.Batches.{AreNumbered, RanInOrder};
+ghost use Rattle.bench_workers.specs.ThreadStarts.{has_failed};
 ghost use Rattle.bench_workers.specs.declared.work_error.WorkError.TheVariants.{GateShut, NoThread};
 ghost use Rattle.bench_workers.specs.declared.tasks.TheConstants.{MAX_WORKERS};
 
 use crate::batch::{Batch, run_batch};
 use crate::gate::Gate;
+use crate::thread_starts::ThreadStarts;
 use crate::waiting::Waiting;
 use crate::work_error::WorkError;
 use bench_core::{NodeDone, NodeTask};
@@ -25,11 +27,13 @@ fn start<'s, E, G: Gate + Sync>(
     gate: &'s G,
     worker: u32,
     tasks: Vec<NodeTask>,
+    starts: &mut ThreadStarts,
 ) -> Result<Worker<G>, WorkError>
     ensures tasks { IfOk result (λ h. h.promise.tasks.value ≡ tasks.items) }
     ensures worker { IfOk result (λ h. h.promise.worker ≡ worker) }
     ensures gate { IfOk result (λ h. h.promise.gate.value ≡ gate.now) }
     ensures open { IfErr result (λ e. e ≢ GateShut) }
+    ensures thread { has_failed starts.new ≡ false → IfErr result (λ e. e ≢ NoThread) }
 {
     let Ok(room) = Vec::with_capacity(alloc, tasks.len()) else {
         return Err(WorkError::Memory);
@@ -48,7 +52,7 @@ fn start<'s, E, G: Gate + Sync>(
         ensures ran { IfSome result (λ dones. RanInOrder waiting dones.items) }
         ensures let_in { IsSome result → G.lets_in gate.entry.now worker ≡ true }
     { run_batch(gate, worker, waiting, room) };
-    match scope.spawn_with(promise, job) {
+    match starts.start_with(scope, promise, job) {
         Ok(handle) => Ok(handle),
         Err(_refused) => Err(WorkError::NoThread),
     }
@@ -60,6 +64,7 @@ pub(crate) fn start_all<'s, E, G: Gate + Sync>(
     alloc: Global,
     gate: &'s G,
     batches: Vec<Vec<NodeTask>>,
+    starts: &mut ThreadStarts,
 ) -> (Vec<Worker<G>>, Option<WorkError>)
     requires { vec_len batches ≤ MAX_WORKERS }
     ensures gate { All (λ h. h.promise.gate.value ≡ gate.now) result.0.items }
@@ -67,13 +72,14 @@ pub(crate) fn start_all<'s, E, G: Gate + Sync>(
         ≡ map (λ b. b.items) batches.items) }
     ensures workers { AreNumbered (map (λ h. h.promise.worker) result.0.items) }
     ensures open { IfSome result.1 (λ e. e ≢ GateShut) }
+    ensures thread { has_failed starts.new ≡ false → IfSome result.1 (λ e. e ≢ NoThread) }
 {
     let Ok(mut started) = Vec::with_capacity(alloc, batches.len()) else {
         return (Vec::new(alloc), Some(WorkError::Memory));
     };
     let mut worker = 0;
     for batch in batches {
-        match start(scope, alloc, gate, worker, batch) {
+        match start(scope, alloc, gate, worker, batch, starts) {
             Ok(handle) => started.push_reserved(handle),
             Err(error) => return (started, Some(error)),
         }

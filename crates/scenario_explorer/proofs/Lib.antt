@@ -1,6 +1,7 @@
 pub mod PlaceLemmas
 pub mod ExploreLemmas
 pub mod TheoremLemmas
+mod OneExploration
 pub mod RuleSteps
 pub mod RulePaths
 pub mod RulePlays

@@ -1,4 +1,5 @@
 pub mod Explore
+pub mod OneExploration
 pub mod RuleSystem
 pub mod RuleOdds
 pub mod RulePrevention

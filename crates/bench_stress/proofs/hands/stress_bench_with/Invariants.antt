@@ -1,4 +1,4 @@
-use Rattle.bench_stress.proofs.hands.stress_bench.Given as goal
+use Rattle.bench_stress.proofs.hands.stress_bench_with.Given as goal
 
 abbrev pub ghosts-hands-B-Ledger : goal.ghosts-hands-B-Ledger
 ghosts-hands-B-Ledger g a = record { name = a.entries.name; parts = a.entries.parts }
