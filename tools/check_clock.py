@@ -4,9 +4,9 @@
 usage: check_clock.py [PROGRAM]
 
 For some sizes: the text has an image, which `verify` accepts and `exec` runs, and a scenario whose `clock` is that text
-isn't told to have a clock of its own, so that the text is the clock that the program makes. Of the image for four
-nodes: each front, and each with one bit turned, of which `verify` and `exec` have to say what fits together. PROGRAM is
-as for check_rows.py.
+isn't told to have a clock of its own, so that the text is the clock that the program makes. For four nodes: what `exec`
+leaves and its steps, for each way through the clock. Of the image for four nodes: each front, and each with one bit
+turned, of which `verify` and `exec` have to say what fits together. PROGRAM is as for check_rows.py.
 """
 import sys
 
@@ -17,6 +17,30 @@ from built_program import Answer, answer, named_program, on_all_processors, tell
 SIZES = [(1, 0, 2), (4, 1, 8), (4, 1, 16), (7, 3, 65535), (32, 10, 65536), (64, 21, 65536)]
 DAMAGED = (4, 1, 16)
 DAMAGED_BYTES = 440
+# Modulus, clock and mark, messages, coin, clock and mark after the pulse, steps.
+SILENCE = "-,-,-,-"
+GREATEST = 2**32 - 1
+PULSES = [
+    # without support the clock is forgotten
+    (8, (0, 0), SILENCE, 1, (0, 0), 36),
+    (16, (0, 1), "1,1,0,0", 1, (0, 0), 38),
+    (8, (5, 1), "5,6,5,-", 0, (0, 0), 38),
+    # with support it counts on
+    (8, (1, 0), "1,1,1,1", 0, (2, 1), 41),
+    (8, (6, 0), "6,6,6,6", 0, (7, 1), 41),
+    (8, (7, 0), "7,7,7,7", 0, (0, 1), 42),
+    (2, (1, 0), "1,1,1,1", 0, (0, 1), 42),
+    # three of four are enough
+    *((65536, (258, 1), f"258,{sent},258,258", 0, (259, 1), 40) for sent in ("-", 0, 259, 65535, GREATEST)),
+    # a marked zero starts, an unmarked one tosses the coin
+    *((8, (0, mark), "0,0,0,0", 0, (1, 1), 43) for mark in (1, 2, 256, GREATEST)),
+    *((8, (0, 0), "0,0,0,0", coin, (coin, coin), 44) for coin in (0, 1)),
+    # a clock from the modulus on is taken for zero
+    *((8, (clock, 1), "0,0,0,0", 0, (1, 1), 44) for clock in (8, 9, 65536, GREATEST)),
+    *((8, (clock, 1), f"{clock},{clock},{clock},{clock}", 0, (0, 0), 37) for clock in (8, 9, 65536, GREATEST)),
+]
+# The bytes of the memory after clock and mark, which a pulse leaves as they are.
+OTHERS = bytes(range(8, 16))
 # The slots from which two fronts lead out: that of a slot, and that without `exit`.
 BROKEN = {8: 0, 432: 53}
 # Enough for every program that is accepted, and for those that have no way back.
@@ -105,6 +129,20 @@ def size_differences(program, size):
             yield f"the clock of {size} for a node less: {got} in place of {wanted}"
 
 
+def memory_of(pair):
+    return (b"".join(number.to_bytes(4, "little") for number in pair) + OTHERS).hex()
+
+
+def pulse_differences(program, pulse):
+    """What a pulse leaves, what it sends, and its steps."""
+    modulus, before, mail, coin, after, steps = pulse
+    words = ["exec", "--text", "--show", f"--contents={memory_of(before)}", f"--mail={mail}", f"--coin={coin}"]
+    sent = ",".join([str(after[0])] * 4)
+    wanted = line(f"r0 0 steps {steps}\nmemory {memory_of(after)}\nsent {sent}", DONE)
+    got = answer(program, words, clock_text(4, 1, modulus))
+    return [] if got == wanted else [f"a pulse, {pulse}: {got} in place of {wanted}"]
+
+
 def pair(program, image):
     """What `verify` and `exec` answer."""
     verdict = without_note(answer(program, ["verify", "--memory", "8"], image))
@@ -156,13 +194,15 @@ def main():
         kind, it = row
         if kind == "sizes":
             return list(size_differences(program, it))
+        if kind == "pulses":
+            return pulse_differences(program, it)
         verdict, ran = pair(program, image[:it] if kind == "fronts" else turned(image, it))
         if kind == "bits" and verdict.status == DONE:
             accepted.append(it)
         fits = front_fits(it, verdict, ran) if kind == "fronts" else damage_fits(verdict, ran)
         return [] if fits else [f"{kind} {it}: {verdict} and {ran} don't fit"]
 
-    kinds = {"sizes": SIZES, "fronts": range(len(image)), "bits": range(8 * len(image))}
+    kinds = {"sizes": SIZES, "pulses": PULSES, "fronts": range(len(image)), "bits": range(8 * len(image))}
     rows = [(kind, it) for kind, those in kinds.items() for it in those]
     found = on_all_processors(differences, rows)
     if not accepted:

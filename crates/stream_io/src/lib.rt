@@ -30,9 +30,6 @@ pub use reading::{ReadFault, read_at_most};
 pub use sink::{Sink, Tracked};
 pub use source::{Counted, Source};
 
-#[cfg(test)]
-mod tests;
-
 /// A write that failed, and how many bytes were taken before.
 #[derive(Clone, Copy, Debug, PartialEq, Eq)]
 pub struct WriteFault {

@@ -24,6 +24,3 @@ pub use arithmetic::{alu, movsx, neg, swap};
 pub use conditions::branch;
 pub use laws::{branches_grow, joins_grow, results_grow};
 pub use range::{Range, hull, meet};
-
-#[cfg(test)]
-mod tests;

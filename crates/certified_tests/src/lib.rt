@@ -1,5 +1,0 @@
-//! The tests of `certified_steps`.
-#![tactic(auto)]
-
-#[cfg(test)]
-mod tests;

@@ -1,5 +1,0 @@
-//! The tests of `clock_nodes`.
-#![tactic(auto)]
-
-#[cfg(test)]
-mod tests;

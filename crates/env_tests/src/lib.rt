@@ -1,5 +1,0 @@
-//! The tests of `node_env`.
-#![tactic(auto)]
-
-#[cfg(test)]
-mod tests;

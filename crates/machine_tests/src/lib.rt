@@ -1,5 +1,0 @@
-//! The tests of `bpf_machine`.
-#![tactic(auto)]
-
-#[cfg(test)]
-mod tests;

@@ -1,5 +1,0 @@
-//! The tests of `bpf_verify`.
-#![tactic(auto)]
-
-#[cfg(test)]
-mod tests;
