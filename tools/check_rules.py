@@ -13,25 +13,38 @@ import sys
 sys.dont_write_bytecode = True
 from built_program import TOP, answer, named_program, on_all_processors, tell
 from rule_meaning import pulse
-from rule_text import MAX_FRAMES, Reader, Refused
+from rule_text import MAX_FRAMES, MAX_LOOKUPS, Reader, Refused
 
 SEED, DRAWN, FAULTY, CASES = 9669, 300, 400, 3
 NODES = (1, 4, 7)
-PIECES = ["$", "x", "9" * 12, " ", "\n", "\t", *"( ) : , if else count least mail [ ] none = == to".split()]
+PIECES = ["$", "x", "9" * 12, " ", "\n", "\t", *"( ) : , if else count least mail table [ ] none = == to".split()]
 OPERATORS = ["+", "-", "*", "/", "%", "==", "!=", "<", "<=", ">", ">=", "and", "or"]
 
 
 class Drawing:
-    """Draws rules: two words of memory, any number of lets, and loops that are at most one inside another."""
+    """Draws rules: two words of memory, tables, any number of lets, and loops that are at most one inside another."""
 
     def __init__(self, dice):
-        self.dice = dice
+        self.dice, self.tables, self.lookups = dice, [], 0
 
     def number(self, names):
         leaves = ["0", "1", "2", "3", "4294967295", "n", "f", "M", "me", "coin", "none", "clock", "mark", *names]
         return self.dice.choice(leaves)
 
+    def lookup(self, names):
+        self.lookups += 1
+        return f"{self.dice.choice(self.tables)}[{self.number(names)}]"
+
+    def table(self, name):
+        """A table of one cell or more, in runs of equal ones, on one line or several."""
+        cells = []
+        for _ in range(self.dice.choice([1, 2, 3, 9, 40])):
+            cells += [self.dice.choice(["0", "1", "2", "4294967295", "none"])] * self.dice.choice([1, 1, 2, 5])
+        return f"table {name} = [{self.dice.choice([', ', ',', ',' + chr(10)]).join(cells)}]\n"
+
     def term(self, names, depth):
+        if self.tables and self.lookups < MAX_LOOKUPS and self.dice.random() < 0.1:
+            return self.lookup(names)
         kind = self.dice.randrange(8) if depth else 0
         inner = lambda more=(): self.term([*names, *more], depth - 1)
         if kind < 2:
@@ -73,7 +86,8 @@ class Drawing:
 
     def rule(self):
         lets = [f"x{it}" for it in range(self.dice.choice([0, 1, 1, 2, 2, 3, 4, 5, 8, 40]))]
-        text = "state mark\n"
+        self.tables, self.lookups = [f"t{it}" for it in range(self.dice.choice([0, 0, 1, 2]))], 0
+        text = "".join(map(self.table, self.tables)) + "state mark\n"
         for number, name in enumerate(lets):
             text += f"let {name} = {self.term(lets[:number], 1 if number % 3 else 2)}\n"
         targets = ["clock", "mark", *lets]

@@ -118,6 +118,16 @@ def least(term):
     return value
 
 
+def lookup(term):
+    index = value_of(term.index)
+
+    def value(state):
+        place = index(state)
+        return term.cells[place] if place < len(term.cells) else NONE
+
+    return value
+
+
 def inverse(term):
     inner = value_of(term.inner)
     return lambda state: int(inner(state) == 0)
@@ -135,7 +145,7 @@ def choice(term):
 
 TERMS = {
     tree.Number: number, tree.Given: given, tree.Name: named, tree.Mail: mail, tree.Count: count,
-    tree.Least: least, tree.Inverse: inverse, tree.Binary: binary, tree.Choice: choice,
+    tree.Least: least, tree.Lookup: lookup, tree.Inverse: inverse, tree.Binary: binary, tree.Choice: choice,
 }
 
 

@@ -4,12 +4,16 @@ It is written from the page, apart from the compiler. A text that is no rule is 
 and column.
 """
 import dataclasses
+import itertools
 import re
 
 WORDS = "state let if elif else for count send to and or not mail n f M me coin none clock table sorted".split()
 TOKEN = re.compile(rb"(?P<number>[0-9]+)|(?P<name>[A-Za-z_][A-Za-z0-9_]*)|(?P<sign>==|!=|<=|>=|[-+*/%<>=,:()\[\]])")
 NONE, LIMIT = 2**32 - 1, 2**32
 MAX_LETTERS, MAX_PARTS, MAX_NAMES, MAX_LINES, MAX_TOKENS = 32, 200, 200, 512, 1000
+MAX_CELLS, MAX_LOOKUPS = 1024, 64
+# A table with so many cells: the four tokens before them, each with a comma or the bracket after it.
+MAX_TABLE_TOKENS = 4 + 2 * MAX_CELLS
 # Frames of a reader that is as deep as a rule may be.
 MAX_FRAMES = 20_000
 FIXED = ("n", "f", "M", "me", "coin", "none")
@@ -66,6 +70,34 @@ class Least:
     node: str
     test: object
     place: tuple
+
+
+@dataclasses.dataclass(frozen=True)
+class Lookup:
+    """A cell of a table; `none` past its end."""
+
+    cells: tuple
+    index: object
+    place: tuple
+
+    def runs(self):
+        """The first place and the number of each run of equal cells. The last one is past the end, too."""
+        found, place = [], 0
+        for value, run in itertools.groupby((*self.cells, NONE)):
+            found.append((place, value))
+            place += len(list(run))
+        return found
+
+    def choices(self):
+        """The choices as which the compiler reads the lookup: a search by halves for the run of the index."""
+        return self.choices_of(self.runs())
+
+    def choices_of(self, runs):
+        if len(runs) == 1:
+            return Number(runs[0][1])
+        half = len(runs) // 2
+        test = Binary("<", self.index, Number(runs[half][0]), self.place)
+        return Choice(test, self.choices_of(runs[:half]), self.choices_of(runs[half:]))
 
 
 @dataclasses.dataclass(frozen=True)
@@ -157,6 +189,7 @@ def tokens_of(text, pattern, ends_at_next):
 def sound_tokens(text, pattern, ends_at_next):
     """The tokens of a text, line by line. `in` and `out` are those of blocks; `end` is where a line has ended."""
     columns, depth, lines, count, ended = [], 0, 0, 0, (1, 1)
+    most, lookups, before = MAX_TOKENS, 0, ""
     for number, line in enumerate(text.split(b"\n"), 1):
         code = line.split(b"#")[0]
         column = len(code) - len(code.lstrip(b" "))
@@ -169,11 +202,14 @@ def sound_tokens(text, pattern, ends_at_next):
                 raise Refused("TooLong" if code[column : column + 1] not in b"\t\r" else "BadIndent", place)
             yield from indented(columns, column, place, not lines)
             lines, count = lines + 1, 0
+            most = MAX_TABLE_TOKENS if is_word(found[0], "table") else MAX_TOKENS
         for token in found:
             if token.kind == "fault":
                 raise Refused(token.text, token.place)
-            if count == MAX_TOKENS:
+            lookups += token.text == "[" and before == "name"
+            if count == most or lookups > MAX_LOOKUPS:
                 raise Refused("TooLong", token.place)
+            before = token.kind
             depth, count = max(depth + DEEPER.get(token.text, 0), 0), count + 1
             ended = number, token.place[1] + len(token.text)
             yield token
@@ -299,17 +335,41 @@ class Reader:
 
     def rule(self):
         words = ["clock"]
-        while self.at("state"):
-            self.next()
-            while True:
-                name = self.new_name()
-                self.names[name] = "word", len(words)
-                words.append(name)
-                if not self.at(","):
-                    break
-                self.next()
+        while self.at("state", "table"):
+            if self.next().text == "table":
+                self.table()
+            else:
+                self.state(words)
             self.expect_kind("end")
         return Rule(words, self.statements_to("stop"))
+
+    def state(self, words):
+        while True:
+            name = self.new_name()
+            self.names[name] = "word", len(words)
+            words.append(name)
+            if not self.at(","):
+                break
+            self.next()
+
+    def table(self):
+        name = self.new_name()
+        self.expect("=")
+        self.expect("[")
+        cells = [self.cell()]
+        while self.at(","):
+            self.next()
+            cells.append(self.cell())
+        self.expect("]")
+        self.names[name] = "table", tuple(cells)
+
+    def cell(self):
+        token = self.next()
+        if token.kind == "number":
+            return int(token.text)
+        if is_word(token, "none"):
+            return NONE
+        raise unexpected(token, 'a number or "none"')
 
     def statements_to(self, kind):
         """The statements of a block."""
@@ -411,8 +471,8 @@ class Reader:
         meaning = self.names.get(token.text)
         if meaning is None:
             raise Refused("UnknownName", token.place, f"unknown name {token.text}")
-        if meaning[0] == "node":
-            raise Refused("NotAssignable", token.place, f"{token.text} is the node of a loop")
+        if meaning[0] in ("node", "table"):
+            raise Refused("NotAssignable", token.place, f"{token.text} can't be set")
         if token.text in [it.text for it in before]:
             raise Refused("NameTwice", token.place, f"{token.text} is set twice")
         return Name(token.text, *meaning, token.place)
@@ -501,4 +561,21 @@ class Reader:
         meaning = self.names.get(token.text)
         if meaning is None:
             raise Refused("UnknownName", token.place, f"unknown name {token.text}")
+        if meaning[0] == "table":
+            return self.lookup(meaning[1], token.place)
         return Name(token.text, *meaning, token.place)
+
+    def lookup(self, cells, place):
+        self.expect("[")
+        index = self.index()
+        self.expect("]")
+        return Lookup(cells, index, place)
+
+    def index(self):
+        """One word, so that each step of a search by halves can have it."""
+        token = self.now
+        is_given = token.kind == "word" and token.text in (*FIXED, "clock")
+        is_table = token.kind == "name" and self.names.get(token.text, ("",))[0] == "table"
+        if is_table or not (is_given or token.kind in ("number", "name")):
+            raise unexpected(token, "a number, a name or a word such as me")
+        return self.atom()

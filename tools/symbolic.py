@@ -7,7 +7,7 @@ import re
 import shutil
 import subprocess
 
-from rule_text import LIMIT, Binary, Choice, Count, Given, Inverse, Least, Mail, Name, Number
+from rule_text import LIMIT, Binary, Choice, Count, Given, Inverse, Least, Lookup, Mail, Name, Number
 
 SAT, UNSAT = "sat", "unsat"
 VALUE = re.compile(r"\(([^\s()]+) (\d+|\(- \d+\)|true|false)\)")
@@ -135,6 +135,8 @@ class Terms:
             return term.value
         if isinstance(term, Choice):
             return chosen(self.holds(term.test), self.value(term.then), self.value(term.other))
+        if isinstance(term, Lookup):
+            return self.value(term.choices())
         if isinstance(term, Binary) and term.sign in WHOLE:
             return self.arithmetic(term, self.value(term.left), self.value(term.right))
         if isinstance(term, (Binary, Inverse)):

@@ -9,13 +9,13 @@ const ASSEMBLER = [
   ...each("ja jal call exit id recv send coin", ""),
 ];
 const TERMS = each("count least mail clock coin none me and or not if else", "");
-const RULE = each("state let if elif else for send to", "");
+const RULE = each("state table let if elif else for send to", "");
 const SCENARIO = each("version nodes faults modulus memory pulses coins key clock rule load unload corrupt coin pulse" +
   " node program text values image value say echo asm noise chacha zeros ones", "");
 const WORDS = { toml: SCENARIO, rule: RULE, asm: ASSEMBLER };
 /** What an unknown name in a rule may have meant. */
 export const RULE_HINT = "A rule knows: count j: .., least j: .., for j: .., mail[j], clock, coin, none, me, n, f, M, " +
-  "and the names of let and state. Ctrl+Space lists words.";
+  "and the names of let, state and table. Ctrl+Space lists words.";
 
 /** Returns the words of a language, those first that fit behind this part of a line. */
 export function wordsFor(kind, before) {
@@ -25,7 +25,7 @@ export function wordsFor(kind, before) {
 
 /** `least` is a word if a name follows it. */
 const LEAST = "least(?=\\s+(?!(?:if|else|and|or|to)\\b)[A-Za-z_])";
-const RULE_WORDS = `state|let|if|elif|else|for|send|to|count|${LEAST}|and|or|not`;
+const RULE_WORDS = `state|table|let|if|elif|else|for|send|to|count|${LEAST}|and|or|not`;
 /** For each kind of line the forms of its parts; of those that fit at a place the first counts. */
 const FORMS = {
   toml: [

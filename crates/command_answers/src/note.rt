@@ -7,12 +7,12 @@ use crate::rejection::{Rejection, Uncompiled, Unread};
 use crate::trace_note::words_on_trace;
 use bpf_asm::assemble;
 use bpf_insn::decode;
-use requests::NodeInPulse;
-use rule_notes::{Note, note_on_rule};
+use requests::{CompileOptions, NodeInPulse};
+use rule_notes::{Note, line_parted, note_on_rule};
 use rule_programs::RuleRefusal;
-use rule_syntax::Statement;
+use rule_syntax::{Sizes, Statement};
 use rule_text::read_rule;
-use scenario_notes::{note_on, note_on_text};
+use scenario_notes::{note_on, note_on_text, past_limit};
 use scenario_text::Scenario;
 use std::alloc::Global;
 use std::str;
@@ -109,7 +109,7 @@ pub(crate) fn rejection_note(alloc: Global, rejection: &Rejection, bytes: &[u8])
         Rejection::Program(Unread::Image(_)) => advised(alloc, image_advice(bytes)?),
         Rejection::Program(Unread::Shape) => advised(alloc, Advice::Shape),
         Rejection::Program(Unread::Text(error)) => note_on_text(alloc, bytes, *error).ok()?,
-        Rejection::Rule { why, memory } => uncompiled_note(alloc, *memory, bytes, *why),
+        Rejection::Rule { why, options } => uncompiled_note(alloc, *options, bytes, *why),
         Rejection::Scenario(rejected) => note_on(alloc, bytes, rejected).ok()?,
     }
 }
@@ -162,8 +162,13 @@ fn sets_nodes(line: &str) -> bool {
     }
 }
 
-/// Returns the note on a rule that has no program, on nodes with this many bytes of memory.
-fn uncompiled_note(alloc: Global, memory: u32, text: &[u8], why: Uncompiled) -> Option<Note> {
+/// Returns the note on a rule that has no program.
+fn uncompiled_note(
+    alloc: Global,
+    options: CompileOptions,
+    text: &[u8],
+    why: Uncompiled,
+) -> Option<Note> {
     match why {
         Uncompiled::Shape => advised(alloc, Advice::Shape),
         Uncompiled::Sizes => advised(alloc, Advice::Sizes),
@@ -174,9 +179,30 @@ fn uncompiled_note(alloc: Global, memory: u32, text: &[u8], why: Uncompiled) -> 
                 column,
             },
         ) => note_on_rule(alloc, text, error, line, column).ok()?,
-        Uncompiled::Rule(RuleRefusal::NoRoom) => advised(alloc, room_advice(alloc, memory, text)?),
-        Uncompiled::Rule(RuleRefusal::TooLong) => advised(alloc, Advice::Long),
+        Uncompiled::Rule(RuleRefusal::NoRoom) => {
+            match room_advice(alloc, options.shape.memory, text)? {
+                Advice::Numbers => limit_note(alloc, options, text, Advice::Numbers),
+                advice => advised(alloc, advice),
+            }
+        }
+        Uncompiled::Rule(RuleRefusal::TooLong) => limit_note(alloc, options, text, Advice::Long),
     }
+}
+
+/// Returns the note on a rule past a limit, with a mark under the first statement that is.
+fn limit_note(alloc: Global, options: CompileOptions, text: &[u8], advice: Advice) -> Option<Note> {
+    let sizes = Sizes {
+        nodes: options.shape.nodes,
+        faults: options.faults,
+        modulus: options.modulus,
+        memory: options.shape.memory,
+    };
+    let Some((line, column)) = past_limit(alloc, text, sizes).ok()? else {
+        return advised(alloc, advice);
+    };
+    let advice = advice.words();
+    let words = format!(in alloc; "line {line}, column {column}: {advice}").ok()?;
+    Note::marked(alloc, words, line_parted(text, line, column))
 }
 
 /// Returns what a rule has no room for.

@@ -14,6 +14,7 @@ use crate::note::rejection_note;
 use crate::response::{Response, give};
 use bpf_asm::TextError;
 use bpf_insn::ImageError;
+use requests::CompileOptions;
 use rule_programs::RuleRefusal;
 use scenario_text::{RefusalLine, Rejected};
 use std::alloc::Global;
@@ -46,8 +47,11 @@ pub enum Uncompiled {
 #[derive(Debug, Drop)]
 pub enum Rejection {
     Program(Unread),
-    /// The rule was to run on nodes with this many bytes of memory.
-    Rule { why: Uncompiled, memory: u32 },
+    /// The rule was to be compiled with these options.
+    Rule {
+        why: Uncompiled,
+        options: CompileOptions,
+    },
     Scenario(Rejected),
 }
 

@@ -29,10 +29,7 @@ pub fn compile(alloc: Global, options: CompileOptions, text: &[u8]) -> Result<Re
 {
     match compiled(alloc, options, text)? {
         Ok(bytes) => Ok(Response::done(bytes)),
-        Err(why) => {
-            let memory = options.shape.memory;
-            rejected(alloc, &Rejection::Rule { why, memory }, text)
-        }
+        Err(why) => rejected(alloc, &Rejection::Rule { why, options }, text),
     }
 }
 

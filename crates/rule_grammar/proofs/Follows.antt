@@ -9,6 +9,7 @@ use Rattle.rule_text.specs.declared.lexemes.Kind.TheVariants.{Named, Mark, LineS
 use Rattle.rule_text.specs.declared.lexemes.Token.{Token}
 use Rattle.rule_text.specs.declared.scope.Entry.{Entry}
 use Rattle.rule_text.specs.Forms.{TermForm, StatementForm, nothing}
+use Rattle.rule_text.specs.Tables.{SourceForm}
 use Rattle.rule_text.specs.Terms.{rest_after}
 use Rattle.rule_text.specs.Statements.{simple_by, simple_read, assign_read, Inner, is_start, other_by, simple_line, statement_by, line_read}
 use Rattle.rule_text.specs.Spelling as s
@@ -56,25 +57,26 @@ module _ (text : List ℕ) where
   targets_lead (s.next_target {ts = ts} {c = c} {t = t} are comma is once) =
       first_more class 1 1 ts (c ∷ t ∷ []) (omega arith) (targets_lead are)
 
-  action_leads : {names : List Entry} {ts : List Token} {a : StatementForm} → s.IsAction text names ts a → Leads 2 ts
+module _ (source : SourceForm) where
+  action_leads : {names : List Entry} {ts : List Token} {a : StatementForm} → s.IsAction source names ts a → Leads 2 ts
   action_leads (s.sent {ts = ts} {s = t} h d) = first_is class 2 (Mark signs.Send) t ts h (omega arith)
   action_leads (s.sent_to {ts = ts} {us = us} {s = t} {t = o} h d to k) =
       first_is class 2 (Mark signs.Send) t (ts ++ (o ∷ us)) h (omega arith)
   action_leads (s.set {ts = ts} {us = us} {b = b} are becomes numbers) =
-      first_more class 1 2 ts (b ∷ us) (omega arith) (targets_lead are)
+      first_more class 1 2 ts (b ∷ us) (omega arith) (targets_lead source.text are)
 
-  let_leads : {names more : List Entry} {ts : List Token} {e : TermForm} → s.IsLet text names ts more e → Leads 5 ts
+  let_leads : {names more : List Entry} {ts : List Token} {e : TermForm} → s.IsLet source names ts more e → Leads 5 ts
   let_leads l =
       let others = l.name ∷ l.becomes ∷ l.term in
       subst (Leads 5) (sym l.tokens) (first_is class 5 (Mark signs.Let) l.«let» others l.is_let (omega arith))
 
-  pub simple_leads : {names : List Entry} {ts : List Token} {a : StatementForm} → s.IsSimple text names ts a
+  pub simple_leads : {names : List Entry} {ts : List Token} {a : StatementForm} → s.IsSimple source names ts a
       → Leads 5 ts
   simple_leads (s.action {ts = ts} h) = first_up class 2 5 ts (omega arith) (action_leads h)
   simple_leads (s.let_alone l) = let_leads l
 
   statement_leads : {column : ℕ} {names : List Entry} {ts : List Token} {a : StatementForm}
-      → s.IsStatement text column names ts a → Leads 5 ts
+      → s.IsStatement source column names ts a → Leads 5 ts
   statement_leads (s.does {ts = ts} h) = first_up class 2 5 ts (omega arith) (action_leads h)
   statement_leads (s.loop {ts = ts} {f = f} {n = n} h new body) =
       first_is class 5 (Mark signs.For) f (n ∷ ts) h (omega arith)
@@ -83,37 +85,38 @@ module _ (text : List ℕ) where
   -- ---- how statements are told apart
 
   set_by : (names : List Entry) (kind : Kind) (t : Token) (ts : List Token) → class kind ≤ 1
-      → simple_by text names kind t ts ≡ assign_read text names (t ∷ ts)
+      → simple_by source names kind t ts ≡ assign_read source names (t ∷ ts)
   set_by names (Mark signs.Let) t ts h = absurd (omega arith)
   set_by names (Mark signs.Send) t ts h = absurd (omega arith)
   set_by names kind t ts h = refl
 
   pub set_read : (names : List Entry) (ts rest : List Token) (targets : List Target)
-      → s.AreTargets text names ts targets → simple_read text names (ts ++ rest) ≡ assign_read text names (ts ++ rest)
+      → s.AreTargets source.text names ts targets → simple_read source names (ts ++ rest)
+      ≡ assign_read source names (ts ++ rest)
   set_read names ts rest targets are =
-      let h = first_more class 1 1 ts rest (omega arith) (targets_lead are) in
-      ap (simple_read text names) h.split ∙ set_by names h.token.kind h.token h.others h.is
-      ∙ sym (ap (assign_read text names) h.split)
+      let h = first_more class 1 1 ts rest (omega arith) (targets_lead source.text are) in
+      ap (simple_read source names) h.split ∙ set_by names h.token.kind h.token h.others h.is
+      ∙ sym (ap (assign_read source names) h.split)
 
   act_by : (inner : Inner) (room column : ℕ) (names : List Entry) (kind : Kind) (t : Token) (ts : List Token)
       → class kind ≤ 2
-      → statement_by inner text room column names kind t ts ≡ simple_line inner text room column names (t ∷ ts)
+      → statement_by inner source room column names kind t ts ≡ simple_line inner source room column names (t ∷ ts)
   act_by inner room column names (Mark signs.Let) t ts h = absurd (omega arith)
   act_by inner room column names (Mark signs.For) t ts h = absurd (omega arith)
   act_by inner room column names (Mark signs.If) t ts h = absurd (omega arith)
   act_by inner room column names kind t ts h = refl
 
   pub act_line : (inner : Inner) (room column : ℕ) (names : List Entry) (ts rest : List Token) (a : StatementForm)
-      → s.IsAction text names ts a
-      → line_read inner text room column names (ts ++ rest) ≡ simple_line inner text room column names (ts ++ rest)
+      → s.IsAction source names ts a
+      → line_read inner source room column names (ts ++ rest) ≡ simple_line inner source room column names (ts ++ rest)
   act_line inner room column names ts rest a d =
       let h = first_more class 2 2 ts rest (omega arith) (action_leads d) in
-      ap (line_read inner text room column names) h.split
+      ap (line_read inner source room column names) h.split
       ∙ act_by inner room column names h.token.kind h.token h.others h.is
-      ∙ sym (ap (simple_line inner text room column names) h.split)
+      ∙ sym (ap (simple_line inner source room column names) h.split)
 
   pub none_by : (inner : Inner) (room column : ℕ) (names : List Entry) (kind : Kind) (t u : Token) (us : List Token)
-      → class kind ≤ 5 → other_by inner text room column names kind t u us ≡ Ok (nothing, t ∷ u ∷ us)
+      → class kind ≤ 5 → other_by inner source room column names kind t u us ≡ Ok (nothing, t ∷ u ∷ us)
   none_by inner room column names (Mark signs.Elif) t u us h = absurd (omega arith)
   none_by inner room column names (Mark signs.Else) t u us h = absurd (omega arith)
   none_by inner room column names kind t u us h = refl
@@ -154,12 +157,12 @@ after_no a column ts (at_end {t = t} {ts = us} h) = no_sign a TextEnd t us h ref
 after_no a column ts (at_left {t = t} {ts = us} h left) = no_sign a LineStart t us h refl
 
 -- where a block begins, or its rest ends
-pub block_next : {text : List ℕ} {column : ℕ} {names : List Entry} {ts : List Token} {a : StatementForm}
-    → s.IsBlock text column names ts a → (rest : List Token) → After column rest → Next column (ts ++ rest)
+pub block_next : {source : SourceForm} {column : ℕ} {names : List Entry} {ts : List Token} {a : StatementForm}
+    → s.IsBlock source column names ts a → (rest : List Token) → After column rest → Next column (ts ++ rest)
 block_next s.empty rest h = block_ends h
-block_next {text} (s.let_line {ts = us} {us = vs} start l d) rest h =
+block_next {source} (s.let_line {ts = us} {us = vs} start l d) rest h =
     at_line start (first_more class 5 5 (us ++ vs) rest (omega arith)
-    (first_more class 5 5 us vs (omega arith) (let_leads text l)))
-block_next {text} (s.line {ts = us} {us = vs} start d others) rest h =
+    (first_more class 5 5 us vs (omega arith) (let_leads source l)))
+block_next {source} (s.line {ts = us} {us = vs} start d others) rest h =
     at_line start (first_more class 5 5 (us ++ vs) rest (omega arith)
-    (first_more class 5 5 us vs (omega arith) (statement_leads text d)))
+    (first_more class 5 5 us vs (omega arith) (statement_leads source d)))

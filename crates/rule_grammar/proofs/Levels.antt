@@ -16,8 +16,10 @@ use Rattle.rule_text.specs.declared.joints.Joint.{Joint}
 use Rattle.rule_text.specs.declared.joints.Chain.{Chain}
 use Rattle.rule_text.specs.declared.joints.Chain.TheVariants as chains
 use Rattle.rule_text.specs.Forms.{TermForm}
+use Rattle.rule_text.specs.Tables.{SourceForm}
 use Rattle.rule_text.specs.Scopes.{letters_of}
-use Rattle.rule_text.specs.Terms.{is_least, is_named, begins_with_name, after_least, aggregate_in, rest_after, joint_by, joint_of, comparison_by, comparison_of, joint_in, comparison_in, leaf_of}
+use Rattle.rule_text.specs.Tokens.{is_named}
+use Rattle.rule_text.specs.Terms.{is_least, begins_with_name, after_least, aggregate_in, rest_after, joint_by, joint_of, comparison_by, comparison_of, joint_in, comparison_in, leaf_of}
 use Rattle.rule_text.specs.Spelling as s
 use Rattle.rule_grammar.proofs.Readings.{after_sign, no_sign, first_no, no_front, Clear, clear_kind, First, first_is, first_more, first_up, first_clear}
 
@@ -186,8 +188,14 @@ leaf_opening signs.NoMessage term e = omega arith
 leaf_opening signs.Clock term e = omega arith
 leaf_opening a term e = absurd (let no : None ≡ Some term = e in cc)
 
-begins : {text : List ℕ} {level : s.Level} {names : List Entry} {ts : List Token} {a : TermForm}
-    → s.IsTerm text level names ts a → Begins level ts
+leaf_begins : {text : List ℕ} {names : List Entry} {a : TermForm} (t : Token) (ts : List Token)
+    → s.IsLeaf text names t a → Begins s.atom (t ∷ ts)
+leaf_begins t ts (s.numeral {v = v} h) = first_is opening 0 (Number v) t ts h (omega arith)
+leaf_begins t ts (s.named {name = name} h e f) = first_is opening 0 (Named name) t ts h (omega arith)
+leaf_begins t ts (s.given {s = a} {a = term} h e) = first_is opening 0 (Mark a) t ts h (leaf_opening a term e)
+
+begins : {source : SourceForm} {level : s.Level} {names : List Entry} {ts : List Token} {a : TermForm}
+    → s.IsTerm source level names ts a → Begins level ts
 begins (s.alone {level = level} {ts = ts} d) =
     first_up opening (rank (s.tighter level)) (rank level) ts (tighter_rank level) (begins d)
 begins (s.chosen {xs = xs} {ts = ts} {ys = ys} {i = i} {e = e} d is_if test is_else other) =
@@ -200,22 +208,22 @@ begins (s.joined {kind = kind} {xs = xs} {ys = ys} o d e other) =
     first_more opening (rank (s.chain kind)) (rank (s.chain kind)) xs (o ∷ ys) (omega arith) (begins d)
 begins (s.not_so {ts = ts} {o = o} is_not d) = first_is opening 4 (Mark signs.Not) o ts is_not (omega arith)
 begins (s.beside {xs = xs} {ys = ys} o d e other) = first_more opening 2 3 xs (o ∷ ys) (omega arith) (begins d)
-begins (s.numeral {t = t} {v = v} h) = first_is opening 0 (Number v) t [] h (omega arith)
-begins (s.named {t = t} {name = name} h e) = first_is opening 0 (Named name) t [] h (omega arith)
-begins (s.given {t = t} {s = a} {a = term} h e) = first_is opening 0 (Mark a) t [] h (leaf_opening a term e)
+begins (s.leaf {t = t} one) = leaf_begins t [] one
+begins (s.looked_up {n = n} {o = o} {t = t} {c = c} {name = name} h e opens one closes) =
+    first_is opening 0 (Named name) n (o ∷ t ∷ c ∷ []) h (omega arith)
 begins (s.received {ts = ts} {m = m} {o = o} {c = c} h opens d closes) =
     first_is opening 0 (Mark signs.Mail) m (o ∷ (ts ++ (c ∷ []))) h (omega arith)
 begins (s.bracketed {ts = ts} {o = o} {c = c} h d closes) =
     first_is opening 0 (Mark signs.Open) o (ts ++ (c ∷ [])) h (omega arith)
 
-pub starts : {text : List ℕ} {level : s.Level} {names : List Entry} {ts : List Token} {a : TermForm}
-    → s.IsTerm text level names ts a → (rest : List Token) → Begins level (ts ++ rest)
-starts {text} {level} {names} {ts} d rest =
+pub starts : {source : SourceForm} {level : s.Level} {names : List Entry} {ts : List Token} {a : TermForm}
+    → s.IsTerm source level names ts a → (rest : List Token) → Begins level (ts ++ rest)
+starts {source} {level} {names} {ts} d rest =
     first_more opening (rank level) (rank level) ts rest (omega arith) (begins d)
 
-pub term_clear : {text : List ℕ} {level : s.Level} {names : List Entry} {ts : List Token} {a : TermForm}
-    → s.IsTerm text level names ts a → (rest : List Token) → Clear (ts ++ rest)
-term_clear {text} {level} {names} {ts} d rest =
+pub term_clear : {source : SourceForm} {level : s.Level} {names : List Entry} {ts : List Token} {a : TermForm}
+    → s.IsTerm source level names ts a → (rest : List Token) → Clear (ts ++ rest)
+term_clear {source} {level} {names} {ts} d rest =
     let low = rank_low level in
     first_clear opening (rank level) (ts ++ rest) (starts d rest) (λ e. omega arith)
 
@@ -256,8 +264,8 @@ comparison_nameless (Named name) comparison e = absurd (let no : None ≡ Some c
 comparison_nameless k comparison e = refl
 
 -- a term that is no whole one doesn't begin with two names
-apart : {text : List ℕ} {level : s.Level} {names : List Entry} {ts : List Token} {a : TermForm}
-    → s.IsTerm text level names ts a → rank level ≤ 6 → (rest : List Token) → begins_with_name rest ≡ false
+apart : {source : SourceForm} {level : s.Level} {names : List Entry} {ts : List Token} {a : TermForm}
+    → s.IsTerm source level names ts a → rank level ≤ 6 → (rest : List Token) → begins_with_name rest ≡ false
     → two_names (ts ++ rest) ≡ false
 apart (s.alone {level = level} d) low rest e = let less = tighter_rank level in apart d (omega arith) rest e
 apart (s.chosen d is_if test is_else other) low rest e = absurd (omega arith)
@@ -269,9 +277,9 @@ apart (s.not_so {ts = ts} {o = o} is_not d) low rest e = first_sign signs.Not o 
 apart (s.beside {xs = xs} {ys = ys} {comparison = comparison} o d is other) low rest e =
     rw (append_assoc xs (o ∷ ys) rest)
     (apart d (omega arith) (o ∷ (ys ++ rest)) (comparison_nameless o.kind comparison is))
-apart (s.numeral {t = t} h) low rest e = one_name t rest e
-apart (s.named {t = t} h is) low rest e = one_name t rest e
-apart (s.given {t = t} h is) low rest e = one_name t rest e
+apart (s.leaf {t = t} one) low rest e = one_name t rest e
+apart (s.looked_up {n = n} {o = o} {t = t} {c = c} h is opens one closes) low rest e =
+    one_name n (o ∷ t ∷ c ∷ rest) (sign_nameless signs.OpenSquare o (t ∷ c ∷ rest) opens)
 apart (s.received {ts = ts} {m = m} {o = o} {c = c} h opens d closes) low rest e =
     first_sign signs.Mail m (o ∷ ((ts ++ (c ∷ [])) ++ rest)) h
 apart (s.bracketed {ts = ts} {o = o} {c = c} h d closes) low rest e =
@@ -296,13 +304,13 @@ abbrev found_later : Option (List Token) → Option (Aggregate × List Token)
 found_later o = option_map (λ rest. (aggregates.Least, rest)) o
 
 -- no aggregate begins a term that is no whole one
-pub no_aggregate : {text : List ℕ} {level : s.Level} {names : List Entry} {ts : List Token} {a : TermForm}
-    → s.IsTerm text level names ts a → rank level ≤ 6 → (rest : List Token) → begins_with_name rest ≡ false
-    → aggregate_in text (ts ++ rest) ≡ None
-no_aggregate {text} {level} {names} {ts} d low rest e =
+pub no_aggregate : {source : SourceForm} {level : s.Level} {names : List Entry} {ts : List Token} {a : TermForm}
+    → s.IsTerm source level names ts a → rank level ≤ 6 → (rest : List Token) → begins_with_name rest ≡ false
+    → aggregate_in source.text (ts ++ rest) ≡ None
+no_aggregate {source} {level} {names} {ts} d low rest e =
     let us = ts ++ rest in
-    ap (found_first text us) (first_no opening (rank level) signs.Count us (starts d rest) (omega arith))
-    ∙ ap found_later (no_least text us (apart d low rest e))
+    ap (found_first source.text us) (first_no opening (rank level) signs.Count us (starts d rest) (omega arith))
+    ∙ ap found_later (no_least source.text us (apart d low rest e))
 
 pub count_first : (text : List ℕ) (t : Token) (ts : List Token) → s.IsSign signs.Count t
     → aggregate_in text (t ∷ ts) ≡ Some (aggregates.Count, ts)

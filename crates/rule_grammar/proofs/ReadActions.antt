@@ -13,6 +13,7 @@ use Rattle.rule_text.specs.declared.scope.Entry.{Entry}
 use Rattle.rule_text.specs.declared.scope.Maker.TheVariants as makers
 use Rattle.rule_text.specs.declared.statements.Layer.TheVariants.{Rest}
 use Rattle.rule_text.specs.Forms.{TermForm, AssignmentForm, StatementForm, let_in, assign}
+use Rattle.rule_text.specs.Tables.{SourceForm}
 use Rattle.rule_text.specs.Scopes.{Reading, ◌>>=◌, rule_error_at}
 use Rattle.rule_text.specs.Terms.{rest_after, wanted}
 use Rattle.rule_text.specs.Statements.{target_meant, target_by, has_target, new_target, targets_read, values_read, numbers_read, assign_read, let_read, simple_read, Inner, line_read}
@@ -67,77 +68,79 @@ module _ (text : List ℕ) (names : List Entry) where
       (targets_give are left (c ∷ t ∷ rest) y
       (λ n. by_some _ _ (after_sign signs.Comma c (t ∷ rest) comma) (next_gives n targets target t rest y h once k)))
 
+module _ (source : SourceForm) (names : List Entry) where
   -- ---- numbers
 
   -- the first numbers, where those of more targets are read after them
   numbers_give : {ts : List Token} {targets : List Target} {a : AssignmentForm}
-      → s.AreTerms text names ts targets a → (more : List Target) (rest : List Token)
-      (y : AssignmentForm × List Token) → Ends s.whole rest → Gives (values_read text names a more rest) y
-      → Gives (numbers_read text names (targets ++ more) (ts ++ rest)) (assign y.0, y.1)
+      → s.AreTerms source names ts targets a → (more : List Target) (rest : List Token)
+      (y : AssignmentForm × List Token) → Ends s.whole rest → Gives (values_read source names a more rest) y
+      → Gives (numbers_read source names (targets ++ more) (ts ++ rest)) (assign y.0, y.1)
   numbers_give (s.first_number {ts = ts} {target = target} {e = e} d) = λ more rest y ends h.
-      bind _ (term_gives text d rest ends) (bind _ h (found refl))
+      bind _ (term_gives source d rest ends) (bind _ h (found refl))
   numbers_give (s.next_number {ts = ts} {us = us} {c = c} {targets = targets} {target = target} {a = a} {e = e}
       are comma d) = λ more rest y ends h.
       rw (append_assoc ts (c ∷ us) rest, append_assoc targets (target ∷ []) more)
       (numbers_give are (target ∷ more) (c ∷ (us ++ rest)) y
       (ends_at s.whole (Mark signs.Comma) c (us ++ rest) comma (omega arith))
-      (bind _ (wanted_sign signs.Comma c (us ++ rest) comma) (bind _ (term_gives text d rest ends) h)))
+      (bind _ (wanted_sign signs.Comma c (us ++ rest) comma) (bind _ (term_gives source d rest ends) h)))
 
   all_numbers : (ts rest : List Token) (targets : List Target) (a : AssignmentForm)
-      → s.AreTerms text names ts targets a → Ends s.whole rest
-      → Gives (numbers_read text names targets (ts ++ rest)) (assign a, rest)
+      → s.AreTerms source names ts targets a → Ends s.whole rest
+      → Gives (numbers_read source names targets (ts ++ rest)) (assign a, rest)
   all_numbers ts rest targets a are ends =
-      subst (λ (l : List Target). Gives (numbers_read text names l (ts ++ rest)) (assign a, rest)) (append-nil targets)
+      subst (λ (l : List Target). Gives (numbers_read source names l (ts ++ rest)) (assign a, rest))
+      (append-nil targets)
       (numbers_give are [] rest (a, rest) ends (found refl))
 
   assign_gives : (ts us rest : List Token) (b : Token) (targets : List Target) (a : AssignmentForm)
-      → s.AreTargets text names ts targets → s.IsSign signs.Becomes b → s.AreTerms text names us targets a
-      → Ends s.whole rest → Gives (assign_read text names (ts ++ (b ∷ (us ++ rest)))) (assign a, rest)
+      → s.AreTargets source.text names ts targets → s.IsSign signs.Becomes b → s.AreTerms source names us targets a
+      → Ends s.whole rest → Gives (assign_read source names (ts ++ (b ∷ (us ++ rest)))) (assign a, rest)
   assign_gives ts us rest b targets a are becomes numbers ends =
-      bind _ (targets_give are MAX_LINE_TOKENS (b ∷ (us ++ rest)) (targets, us ++ rest)
+      bind _ (targets_give source.text names are MAX_LINE_TOKENS (b ∷ (us ++ rest)) (targets, us ++ rest)
       (λ left. by_none _ _ (no_sign signs.Comma (Mark signs.Becomes) b (us ++ rest) becomes refl)
       (bind _ (wanted_sign signs.Becomes b (us ++ rest) becomes) (found refl))))
       (all_numbers us rest targets a numbers ends)
 
   -- ---- actions
 
-  pub action_gives : {ts : List Token} {a : StatementForm} {column : ℕ} → s.IsAction text names ts a
-      → (rest : List Token) → After column rest → Gives (simple_read text names (ts ++ rest)) (a, rest)
+  pub action_gives : {ts : List Token} {a : StatementForm} {column : ℕ} → s.IsAction source names ts a
+      → (rest : List Token) → After column rest → Gives (simple_read source names (ts ++ rest)) (a, rest)
   action_gives {column = column} (s.sent h d) rest ending =
       rw h.is
-      (bind _ (term_gives text d rest (after_ends column rest ending))
+      (bind _ (term_gives source d rest (after_ends column rest ending))
       (by_none _ _ (after_no signs.To column rest ending) (found refl)))
   action_gives {column = column} (s.sent_to {ts = ts} {us = us} {t = o} h d to other) rest ending =
       rw (h.is, append_assoc ts (o ∷ us) rest)
-      (bind _ (term_gives text d (o ∷ (us ++ rest)) (ends_at s.whole (Mark signs.To) o (us ++ rest) to (omega arith)))
+      (bind _ (term_gives source d (o ∷ (us ++ rest)) (ends_at s.whole (Mark signs.To) o (us ++ rest) to (omega arith)))
       (by_some _ _ (after_sign signs.To o (us ++ rest) to)
-      (bind _ (term_gives text other rest (after_ends column rest ending)) (found refl))))
+      (bind _ (term_gives source other rest (after_ends column rest ending)) (found refl))))
   action_gives {column = column} (s.set {ts = ts} {us = us} {b = b} {targets = targets} {a = e} are becomes numbers)
       rest ending =
-      rw (append_assoc ts (b ∷ us) rest, set_read text names ts (b ∷ (us ++ rest)) targets are)
+      rw (append_assoc ts (b ∷ us) rest, set_read source names ts (b ∷ (us ++ rest)) targets are)
       (assign_gives ts us rest b targets e are becomes numbers (after_ends column rest ending))
 
   -- ---- lets
 
   let_gives : (more : List Entry) (n b : Token) (ts rest : List Token) (e : TermForm)
-      → s.IsNew text makers.Let names n more → s.IsSign signs.Becomes b → s.IsTerm text s.whole names ts e
-      → Ends s.whole rest → Gives (let_read text names (n ∷ b ∷ (ts ++ rest))) (e, more, rest)
+      → s.IsNew source.text makers.Let names n more → s.IsSign signs.Becomes b → s.IsTerm source s.whole names ts e
+      → Ends s.whole rest → Gives (let_read source names (n ∷ b ∷ (ts ++ rest))) (e, more, rest)
   let_gives more n b ts rest e new becomes d ends =
-      bind _ (new_gives text makers.Let names more n (b ∷ (ts ++ rest)) new)
+      bind _ (new_gives source.text makers.Let names more n (b ∷ (ts ++ rest)) new)
       (bind _ (wanted_sign signs.Becomes b (ts ++ rest) becomes)
-      (bind _ (term_gives text d rest ends) (found refl)))
+      (bind _ (term_gives source d rest ends) (found refl)))
 
   pub let_line_gives : (inner : Inner) (room column : ℕ) (more : List Entry) (ts rest : List Token) (e : TermForm)
-      (y : StatementForm × List Token) → s.IsLet text names ts more e → Ends s.whole rest
+      (y : StatementForm × List Token) → s.IsLet source names ts more e → Ends s.whole rest
       → Gives (inner Rest room column more rest) y
-      → Gives (line_read inner text room column names (ts ++ rest)) (let_in e y.0, y.1)
+      → Gives (line_read inner source room column names (ts ++ rest)) (let_in e y.0, y.1)
   let_line_gives inner room column more ts rest e y l ends h =
       rw (l.tokens, l.is_let.is)
       (bind _ (let_gives more l.name l.becomes l.term rest e l.is_new l.is_becomes l.is_term ends)
       (bind _ h (found refl)))
 
-  pub simple_gives : {ts : List Token} {a : StatementForm} {column : ℕ} → s.IsSimple text names ts a
-      → (rest : List Token) → After column rest → Gives (simple_read text names (ts ++ rest)) (a, rest)
+  pub simple_gives : {ts : List Token} {a : StatementForm} {column : ℕ} → s.IsSimple source names ts a
+      → (rest : List Token) → After column rest → Gives (simple_read source names (ts ++ rest)) (a, rest)
   simple_gives (s.action h) rest ending = action_gives h rest ending
   simple_gives {column = column} (s.let_alone {ts = ts} {more = more} {e = e} l) rest ending =
       rw (l.tokens, l.is_let.is)

@@ -8,6 +8,7 @@ use crate::near::nearest;
 use crate::place::{Place, place_in};
 use crate::reading::{Reading, reading_at};
 use crate::shown::shown;
+use crate::walk::{Next, TableNext};
 use rule_text::RuleError;
 use std::alloc::{AllocError, Global};
 
@@ -63,7 +64,9 @@ fn of_unknown(alloc: Global, reading: &mut Reading<'_>) -> Result<String, AllocE
 fn other_name(maker: Maker, before: Maker) -> &'static str {
     match (maker, before) {
         (Maker::Let, Maker::Let | Maker::State) => "without \"let\" the line sets it",
-        (Maker::Let | Maker::State | Maker::For | Maker::Aggregate, _) => "choose another name",
+        (Maker::Let | Maker::State | Maker::Table | Maker::For | Maker::Aggregate, _) => {
+            "choose another name"
+        }
     }
 }
 
@@ -94,9 +97,13 @@ fn of_depth(reading: &Reading<'_>) -> &'static str {
 
 fn of_length(reading: &Reading<'_>) -> &'static str {
     if reading.begins_line {
-        "a rule has at most 512 lines with tokens: set several names in one, or use \"for\""
-    } else {
-        "a line has at most 1000 tokens: name parts of it with \"let\""
+        return "a rule has at most 512 lines with tokens: set several names in one, or use \"for\"";
+    }
+    match reading.walk.next {
+        Next::OfTable(TableNext::Cell | TableNext::MoreCells) => "a table has at most 1024 cells",
+        Next::OfTable(TableNext::IndexSquare) =>
+            "a rule has at most 64 lookups in tables: name one with \"let\", and use it again",
+        _ => "a line has at most 1000 tokens: name parts of it with \"let\"",
     }
 }
 

@@ -20,6 +20,7 @@ fn may_follow(next: Next, part: Option<Part>) -> &'static str {
         Next::MoreTargets(_) => "\"=\" or \",\"",
         Next::BlockColon | Next::AggregateColon => "\":\"",
         Next::Square => "\"[\"",
+        Next::OfTable(next) => next.expected(),
         Next::Operand(_) => "a term, such as a number or a name",
         Next::AfterTerm => after_term(part),
         Next::Unknown => "",
@@ -46,6 +47,7 @@ fn fix(next: Next, part: Option<Part>, compared: bool, text: &str) -> &'static s
         Next::Block => fix_of_block(text),
         Next::Operand(_) => fix_of_operand(text),
         Next::AfterTerm => fix_after_term(part, compared, text),
+        Next::OfTable(next) => next.fix(),
         Next::Name(_)
         | Next::MoreNames
         | Next::Becomes
@@ -61,7 +63,7 @@ fn fix(next: Next, part: Option<Part>, compared: bool, text: &str) -> &'static s
 fn fix_of_statement(text: &str) -> &'static str {
     match text {
         "else" | "elif" => "it follows the block of an \"if\", in the same column",
-        "state" => "lines of \"state\" come first",
+        "state" | "table" => "lines of \"state\" and \"table\" come first",
         _ => "",
     }
 }
@@ -77,7 +79,8 @@ fn fix_of_operand(text: &str) -> &'static str {
     match text {
         "not" | "count" => "put it in brackets, with its term",
         "if" => "a choice is x if t else y",
-        "table" | "sorted" => "it has no meaning yet",
+        "table" => "a table has a line of its own, before the statements",
+        "sorted" => "it has no meaning yet",
         _ => "",
     }
 }

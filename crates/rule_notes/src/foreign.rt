@@ -3,7 +3,7 @@
 use crate::reading::Reading;
 use crate::shown::written_for;
 use crate::token::first_of;
-use crate::walk::{Grade, Next, Part};
+use crate::walk::{Grade, Next, Part, TableNext};
 use std::alloc::{AllocError, Global};
 use std::str;
 
@@ -156,6 +156,7 @@ fn of_least(next: Next) -> &'static str {
         | Next::BlockColon
         | Next::AggregateColon
         | Next::Square
+        | Next::OfTable(_)
         | Next::AfterTerm
         | Next::Unknown => "",
     }
@@ -176,13 +177,14 @@ pub(crate) fn of_foreign_sign(alloc: Global, reading: &Reading<'_>) -> Result<St
     match reading.walk.next {
         Next::Statement | Next::Block => of_beginning(alloc, reading),
         Next::MoreTargets(_) => of_target(alloc, reading),
-        Next::Becomes => of_becomes(alloc, reading),
+        Next::Becomes | Next::OfTable(TableNext::Becomes) => of_becomes(alloc, reading),
         Next::BlockColon | Next::AggregateColon => of_colon(alloc, reading),
         Next::Square => of_square(alloc, reading),
         Next::Operand(_) => of_operand(alloc, reading),
         Next::AfterTerm => of_end(alloc, reading),
         Next::Name(_) | Next::MoreNames => of_name(alloc, reading),
-        Next::Target(_) | Next::Unknown => Ok(String::new(alloc)),
+        Next::OfTable(TableNext::IndexSquare) => of_square(alloc, reading),
+        Next::OfTable(_) | Next::Target(_) | Next::Unknown => Ok(String::new(alloc)),
     }
 }
 
@@ -243,7 +245,7 @@ fn of_square(alloc: Global, reading: &Reading<'_>) -> Result<String, AllocError>
         Some((node, _more)) if !node.contains('(') => {
             format!(in alloc; "write \"[{node}]\" in place of \"({node})\"")
         }
-        Some(_) | None => String::from_str(alloc, "square brackets have the node's number"),
+        Some(_) | None => String::from_str(alloc, "the number is in square brackets"),
     }
 }
 

@@ -35,3 +35,4 @@ mod walk;
 pub use advice::advice_at;
 pub use note::Note;
 pub use noting::note_on_rule;
+pub use place::{line_parted, line_start};

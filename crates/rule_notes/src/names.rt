@@ -4,6 +4,7 @@
 #[derive(Clone, Copy)]
 pub(crate) enum Maker {
     State,
+    Table,
     Let,
     For,
     /// `count` or `least`.
@@ -14,7 +15,7 @@ impl Maker {
     /// Returns the column such that a line further left ends the name. `column` is that of its line.
     pub(crate) fn column(self, column: usize, is_inside: bool) -> usize {
         match self {
-            Maker::State => 0,
+            Maker::State | Maker::Table => 0,
             Maker::Let if is_inside => usize::MAX,
             Maker::Let => column,
             Maker::For => column.saturating_add(1),
@@ -26,7 +27,7 @@ impl Maker {
     pub(crate) fn is_visible(self) -> bool {
         match self {
             Maker::Let => false,
-            Maker::State | Maker::For | Maker::Aggregate => true,
+            Maker::State | Maker::Table | Maker::For | Maker::Aggregate => true,
         }
     }
 }

@@ -16,7 +16,7 @@ pub(crate) struct Place<'a> {
 }
 
 /// Returns where a line of a text begins, counted from 1.
-fn line_start(text: &[u8], line: usize) -> usize {
+pub fn line_start(text: &[u8], line: usize) -> usize {
     let mut left = line;
     for (i, byte) in text.iter().enumerate() {
         if left <= 1 {
@@ -61,7 +61,7 @@ pub(crate) fn rest_of_line(place: Place<'_>) -> &str {
 }
 
 /// Returns the line of a place without its end, parted there, with line and column counted from 1, in bytes.
-pub(crate) fn line_parted(text: &[u8], line: usize, column: usize) -> Parted<'_> {
+pub fn line_parted(text: &[u8], line: usize, column: usize) -> Parted<'_> {
     let start = line_start(text, line).min(text.len());
     parted_at(up_to(&text[start..], b'\n'), column)
 }

@@ -3,7 +3,7 @@
 use crate::names::Maker;
 use crate::place::{Place, rest_of_line};
 use crate::token::tokens_of;
-use crate::walk::{Grade, Next, Walk};
+use crate::walk::{Grade, Next, TableNext, Walk};
 use std::alloc::{AllocError, Global};
 
 /// A token, and what is known before it.
@@ -104,9 +104,12 @@ impl<'a> Reading<'a> {
     /// Returns the words and names in scope that can be at the token's place.
     pub(crate) fn known(&self, alloc: Global) -> Result<Vec<&'a str>, AllocError> {
         let is_operand = matches!(self.walk.next, Next::Operand(_));
+        let is_index = matches!(self.walk.next, Next::OfTable(TableNext::Index));
         let mut known = Vec::new(alloc);
         for declared in self.walk.names.iter() {
-            if declared.is_in_scope() && (is_operand || is_assignable(declared.maker)) {
+            let maker = declared.maker;
+            let is_known = is_operand || is_assignable(maker) || (is_index && is_number(maker));
+            if declared.is_in_scope() && is_known {
                 known.push(declared.name)?;
             }
         }
@@ -120,14 +123,23 @@ impl<'a> Reading<'a> {
 fn is_assignable(maker: Maker) -> bool {
     match maker {
         Maker::State | Maker::Let => true,
-        Maker::For | Maker::Aggregate => false,
+        Maker::Table | Maker::For | Maker::Aggregate => false,
     }
+}
+
+/// Returns true if the name is a number, and so can be an index.
+fn is_number(maker: Maker) -> bool {
+    !matches!(maker, Maker::Table)
 }
 
 /// Returns the reserved words of more than two letters that can come next.
 fn words_at(next: Next) -> &'static [&'static str] {
     match next {
-        Next::Statement => &["clock", "let", "send", "for", "elif", "else", "state"],
+        Next::Statement => {
+            &[
+                "clock", "let", "send", "for", "elif", "else", "state", "table",
+            ]
+        }
         Next::Block => &["clock", "let", "send"],
         Next::Target(_) => &["clock"],
         Next::Operand(Grade::Whole) => {
@@ -135,6 +147,7 @@ fn words_at(next: Next) -> &'static [&'static str] {
         }
         Next::Operand(Grade::Inverse) => &["clock", "coin", "none", "mail", "not"],
         Next::Operand(Grade::Atom) => &["clock", "coin", "none", "mail"],
+        Next::OfTable(next) => next.words(),
         Next::Name(_)
         | Next::MoreNames
         | Next::Becomes

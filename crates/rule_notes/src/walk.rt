@@ -36,11 +36,32 @@ pub(crate) enum Next {
     AggregateColon,
     /// The bracket after `mail`.
     Square,
+    /// A token of a table's line, after its name, or of a lookup.
+    OfTable(TableNext),
     Operand(Grade),
     /// An operator, or the end of the term.
     AfterTerm,
     /// Nothing is known.
     Unknown,
+}
+
+/// What has to come next in a table's line, after its name, or in a lookup, after the name of its table.
+#[derive(Clone, Copy)]
+pub(crate) enum TableNext {
+    /// The `=` of a table.
+    Becomes,
+    /// The bracket before the cells.
+    CellSquare,
+    Cell,
+    /// A comma or the bracket after the cells.
+    MoreCells,
+    /// The end of the line.
+    End,
+    /// The bracket before an index.
+    IndexSquare,
+    Index,
+    /// The bracket after an index.
+    IndexEnd,
 }
 
 /// What a term is part of.
@@ -109,6 +130,7 @@ impl<'a> Walk<'a> {
             | Next::BlockColon
             | Next::AggregateColon
             | Next::Square
+            | Next::OfTable(_)
             | Next::Operand(_)
             | Next::AfterTerm
             | Next::Unknown => None,
@@ -119,6 +141,7 @@ impl<'a> Walk<'a> {
     pub(crate) fn may_end(&self) -> bool {
         match self.next {
             Next::Statement | Next::Block | Next::MoreNames => true,
+            Next::OfTable(next) => matches!(next, TableNext::End),
             Next::AfterTerm => matches!(self.part(), Some(Part::Sent | Part::Value(0))),
             Next::Name(_)
             | Next::Becomes
@@ -175,6 +198,7 @@ impl<'a> Walk<'a> {
             })?,
             Next::Operand(grade) => self.after_operand(grade, token)?,
             Next::AfterTerm => self.after_term(token.text)?,
+            Next::OfTable(next) => next.after(token.text),
             Next::Becomes | Next::BlockColon | Next::Square | Next::Unknown => Next::Unknown,
         };
         Ok(())
@@ -183,6 +207,7 @@ impl<'a> Walk<'a> {
     fn after_first(&mut self, text: &str) -> Result<Next, AllocError> {
         match text {
             "state" => Ok(Next::Name(Maker::State)),
+            "table" => Ok(Next::Name(Maker::Table)),
             "for" => Ok(Next::Name(Maker::For)),
             "if" | "elif" => self.enter(Part::Condition),
             "else" => Ok(Next::BlockColon),
@@ -214,6 +239,7 @@ impl<'a> Walk<'a> {
         })?;
         match maker {
             Maker::State => Ok(Next::MoreNames),
+            Maker::Table => Ok(Next::OfTable(TableNext::Becomes)),
             Maker::Let => Ok(Next::Becomes),
             Maker::For => Ok(Next::BlockColon),
             Maker::Aggregate => Ok(Next::AggregateColon),
@@ -237,9 +263,17 @@ impl<'a> Walk<'a> {
             "mail" => Ok(Next::Square),
             "not" if !matches!(grade, Grade::Atom) => Ok(Next::Operand(Grade::Inverse)),
             "count" if matches!(grade, Grade::Whole) => Ok(Next::Name(Maker::Aggregate)),
+            text if self.is_table(text) => Ok(Next::OfTable(TableNext::IndexSquare)),
             text if is_operand(text) => Ok(Next::AfterTerm),
             _ => Ok(Next::Unknown),
         }
+    }
+
+    /// Returns true for the name of a table.
+    fn is_table(&self, text: &str) -> bool {
+        self.names
+            .iter()
+            .any(|it| matches!(it.maker, Maker::Table) && it.name == text)
     }
 
     fn after_term(&mut self, text: &str) -> Result<Next, AllocError> {
@@ -318,6 +352,59 @@ impl<'a> Walk<'a> {
 /// Returns the next if the token is the wanted one.
 fn on(text: &str, wanted: &str, next: Next) -> Next {
     if text == wanted { next } else { Next::Unknown }
+}
+
+impl TableNext {
+    /// Returns what follows a token.
+    fn after(self, text: &str) -> Next {
+        let next = match (self, text) {
+            (TableNext::Becomes, "=") => TableNext::CellSquare,
+            (TableNext::CellSquare, "[") | (TableNext::MoreCells, ",") => TableNext::Cell,
+            (TableNext::Cell, text) if is_cell(text) => TableNext::MoreCells,
+            (TableNext::MoreCells, "]") => TableNext::End,
+            (TableNext::IndexSquare, "[") => TableNext::Index,
+            (TableNext::Index, text) if is_operand(text) => TableNext::IndexEnd,
+            (TableNext::IndexEnd, "]") => return Next::AfterTerm,
+            _ => return Next::Unknown,
+        };
+        Next::OfTable(next)
+    }
+
+    /// Returns the words of more than two letters that can come next.
+    pub(crate) fn words(self) -> &'static [&'static str] {
+        match self {
+            TableNext::Cell => &["none"],
+            TableNext::Index => &["clock", "coin", "none"],
+            _ => &[],
+        }
+    }
+
+    /// Returns what may follow.
+    pub(crate) fn expected(self) -> &'static str {
+        match self {
+            TableNext::Becomes => "\"=\"",
+            TableNext::CellSquare | TableNext::IndexSquare => "\"[\"",
+            TableNext::Cell => "a number or \"none\"",
+            TableNext::MoreCells => "\",\" or \"]\"",
+            TableNext::End => "the end of the line",
+            TableNext::Index => "a number, a name or a word such as \"me\"",
+            TableNext::IndexEnd => "\"]\"",
+        }
+    }
+
+    /// Returns the fix for a token that can't follow: nothing if it isn't known.
+    pub(crate) fn fix(self) -> &'static str {
+        match self {
+            TableNext::Cell => "a cell is written as a number",
+            TableNext::Index | TableNext::IndexEnd => "name the index with \"let\" first",
+            _ => "",
+        }
+    }
+}
+
+/// Returns true for a token that is a cell of a table.
+fn is_cell(text: &str) -> bool {
+    text == "none" || matches!(kind_of(text), Kind::Number)
 }
 
 fn is_name(text: &str) -> bool {

@@ -1,2 +1,3 @@
 pub mod Rebuilt
 pub mod ProgramLemmas
+pub mod TableMeaning

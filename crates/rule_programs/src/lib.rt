@@ -2,6 +2,7 @@
 //!
 //! - `program_of_text` returns the program, or why the text has none.
 //! - `program_with_lines` returns it with lines: entry k is the line that made slot k + 1.
+//! - `what_a_table_means` states what a lookup in a table is.
 //!
 //! ```
 //! use node_env::Shape;
@@ -15,8 +16,10 @@
 //! ```
 #![tactic(auto)]
 
+mod laws;
 mod program;
 mod program_lines;
 
+pub use laws::what_a_table_means;
 pub use program::{RuleRefusal, WORD_BYTES, program_of_text};
 pub use program_lines::{ProgramWithLines, program_with_lines};

@@ -6,3 +6,4 @@ pub mod StatementLemmas
 pub mod SpelledStatements
 pub mod LineLemmas
 pub mod WordLemmas
+pub mod TableLemmas

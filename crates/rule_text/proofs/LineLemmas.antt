@@ -17,6 +17,7 @@ use Rattle.rule_text.specs.declared.lines.Spot.TheVariants.{Front, Counting, Aft
 use Rattle.rule_syntax.specs.declared.syntax.Comparison.{Comparison}
 use Rattle.rule_syntax.specs.declared.syntax.Target.{Target}
 use Rattle.rule_text.specs.Forms.{TermForm, AssignmentForm, StatementForm}
+use Rattle.rule_text.specs.Tables.{SourceForm, HeaderForm, source_with}
 use Rattle.rule_text.specs.Lines.{spot_after, begins_statement, token_line, token_lines_from, statement_lines, form_statements}
 use Rattle.rule_text.specs.Terms.{joint_of, comparison_of, leaf_of}
 use Rattle.rule_text.specs.Statements.{RuleForm, rule_read}
@@ -260,63 +261,74 @@ module _ (text : List ℕ) where
       (quiet {kind = Named new.name} AfterName Counting n new.named (λ u. refl) refl
       (quiet {kind = Mark signs.Colon} Counting Inside d colon (λ u. refl) refl a))
 
-  term_scans : {level : s.Level} {names : List Entry} {ts : List Token} {a : TermForm} → s.IsTerm text level names ts a
+  -- one token, and more of the line
+  leaf_scans : {to : Stage} {n : ℕ} {names : List Entry} {ts : List Token} {a : TermForm} (t : Token)
+      → s.IsLeaf text names t a → Scans resting to n ts → Scans (at Inside) to n (t ∷ ts)
+  leaf_scans t (s.numeral is) more = inside t is refl (scans_inside more)
+  leaf_scans t (s.named is e f) more = called t is more
+  leaf_scans t (s.given is e) more = inside t is (leaf_goes_on _ _ e).inside (scans_inside more)
+
+module _ (source : SourceForm) where
+  term_scans : {level : s.Level} {names : List Entry} {ts : List Token} {a : TermForm}
+      → s.IsTerm source level names ts a
       → Quiet ts
   term_scans (s.alone h) = term_scans h
   term_scans (s.chosen x i t e y) =
       scans_both (term_scans x) (inner _ i refl refl (scans_both (term_scans t) (inner _ e refl refl (term_scans y))))
-  term_scans (s.counted c n d h) = inside _ c refl (counting _ _ n d (term_scans h))
-  term_scans (s.least_of l n d h) = counting_least _ _ _ l n d (term_scans h)
+  term_scans (s.counted c n d h) = inside _ c refl (counting source.text _ _ n d (term_scans h))
+  term_scans (s.least_of l n d h) = counting_least source.text _ _ _ l n d (term_scans h)
   term_scans (s.joined o x e y) =
       scans_both (term_scans x) (operator o _ (joint_goes_on _ o.kind _ e) (term_scans y))
   term_scans (s.not_so o h) = inside _ o refl (term_scans h)
   term_scans (s.beside o x e y) =
       scans_both (term_scans x) (operator o _ (comparison_goes_on o.kind _ e) (term_scans y))
-  term_scans (s.numeral is) = inside _ is refl scans_end
-  term_scans (s.named is e) = called _ is (scans_none resting)
-  term_scans (s.given is e) = inside _ is (leaf_goes_on _ _ e).inside scans_end
+  term_scans (s.leaf one) = leaf_scans source.text _ one (scans_none resting)
+  term_scans (s.looked_up is e o one c) =
+      called _ is (inner _ o refl refl (leaf_scans source.text _ one (inner _ c refl refl scans_end)))
   term_scans (s.received m o h c) =
       inside _ m refl (inside _ o refl (scans_both (term_scans h) (inner _ c refl refl scans_end)))
   term_scans (s.bracketed o h c) = inside _ o refl (scans_both (term_scans h) (inner _ c refl refl scans_end))
 
   -- ---- statements without blocks
 
-  target_scans : {names : List Entry} (t : Token) (target : Target) → s.IsTarget text names t target → Quiet (t ∷ [])
+  target_scans : {names : List Entry} (t : Token) (target : Target) → s.IsTarget source.text names t target
+      → Quiet (t ∷ [])
   target_scans t target (s.the_clock is) = inside t is refl scans_end
   target_scans t target (s.a_let is e) = called t is (scans_none resting)
   target_scans t target (s.a_word is e) = called t is (scans_none resting)
 
-  target_first : {names : List Entry} (t : Token) (target : Target) → s.IsTarget text names t target
+  target_first : {names : List Entry} (t : Token) (target : Target) → s.IsTarget source.text names t target
       → Scans (at Front) resting 1 (t ∷ [])
   target_first t target (s.the_clock is) = first t is refl refl scans_end
   target_first t target (s.a_let is e) = first t is refl refl (scans_after_name (scans_none resting))
   target_first t target (s.a_word is e) = first t is refl refl (scans_after_name (scans_none resting))
 
-  targets_scan : {names : List Entry} {ts : List Token} {targets : List Target} → s.AreTargets text names ts targets
+  targets_scan : {names : List Entry} {ts : List Token} {targets : List Target}
+      → s.AreTargets source.text names ts targets
       → Scans (at Front) resting 1 ts
   targets_scan (s.first_target is) = target_first _ _ is
   targets_scan (s.next_target h c is once) = scans_both (targets_scan h) (inner _ c refl refl (target_scans _ _ is))
 
   numbers_scan : {names : List Entry} {ts : List Token} {targets : List Target} {a : AssignmentForm}
-      → s.AreTerms text names ts targets a → Quiet ts
+      → s.AreTerms source names ts targets a → Quiet ts
   numbers_scan (s.first_number h) = term_scans h
   numbers_scan (s.next_number h c e) = scans_both (numbers_scan h) (inner _ c refl refl (term_scans e))
 
-  action_scans : {names : List Entry} {ts : List Token} {a : StatementForm} → s.IsAction text names ts a
+  action_scans : {names : List Entry} {ts : List Token} {a : StatementForm} → s.IsAction source names ts a
       → Scans (at Front) resting (form_statements a) ts
   action_scans (s.sent is e) = first _ is refl refl (term_scans e)
   action_scans (s.sent_to is e t k) =
       first _ is refl refl (scans_both (term_scans e) (inner _ t refl refl (term_scans k)))
   action_scans (s.set ts b ns) = scans_both (targets_scan ts) (inner _ b refl refl (numbers_scan ns))
 
-  let_scans : {names more : List Entry} {ts : List Token} {e : TermForm} → s.IsLet text names ts more e
+  let_scans : {names more : List Entry} {ts : List Token} {e : TermForm} → s.IsLet source names ts more e
       → Scans (at Front) resting 1 ts
   let_scans l =
       subst (λ (ts : List Token). Scans (at Front) resting 1 ts) (sym l.tokens)
       (first l.«let» l.is_let refl refl (called l.name l.is_new.named (inner l.becomes l.is_becomes refl refl
       (term_scans l.is_term))))
 
-  simple_scans : {names : List Entry} {ts : List Token} {a : StatementForm} → s.IsSimple text names ts a
+  simple_scans : {names : List Entry} {ts : List Token} {a : StatementForm} → s.IsSimple source names ts a
       → Scans (at Front) resting (form_statements a) ts
   simple_scans (s.action is) = action_scans is
   simple_scans (s.let_alone l) = let_scans l
@@ -327,7 +339,8 @@ module _ (text : List ℕ) where
   StartsIn column [] = Unit {0}
   StartsIn column (t ∷ ts) = s.IsLineStart column t
 
-  block_first : {column : ℕ} {names : List Entry} {us : List Token} {a : StatementForm} → s.IsBlock text column names us a
+  block_first : {column : ℕ} {names : List Entry} {us : List Token} {a : StatementForm}
+      → s.IsBlock source column names us a
       → StartsIn column us
   block_first s.empty = tt
   block_first (s.let_line start l rest) = start
@@ -341,14 +354,14 @@ module _ (text : List ℕ) where
 
   mutual
     block_scans : {column : ℕ} {names : List Entry} {ts : List Token} {a : StatementForm}
-        → s.IsBlock text column names ts a → Scans resting resting (form_statements a) ts
+        → s.IsBlock source column names ts a → Scans resting resting (form_statements a) ts
     block_scans s.empty = scans_none resting
     block_scans (s.let_line start l rest) =
         scans_as (omega arith) (started _ start (scans_both (let_scans l) (block_scans rest)))
     block_scans (s.line start one rest) = started _ start (scans_both (statement_scans one) (block_scans rest))
 
     statement_scans : {column : ℕ} {names : List Entry} {ts : List Token} {a : StatementForm}
-        → s.IsStatement text column names ts a → Scans (at Front) resting (form_statements a) ts
+        → s.IsStatement source column names ts a → Scans (at Front) resting (form_statements a) ts
     statement_scans (s.does is) = action_scans is
     statement_scans (s.loop is new body) =
         scans_as (omega arith) (first _ is refl refl (called _ new.named (body_scans body)))
@@ -357,7 +370,7 @@ module _ (text : List ℕ) where
         scans_as (omega (arith, c.more)) (first _ is refl refl c.scans)
 
     cases_scan : {column : ℕ} {names : List Entry} {ts : List Token} {a : StatementForm}
-        → s.AreCases text column names ts a → Cases a ts
+        → s.AreCases source column names ts a → Cases a ts
     cases_scan (s.cases test body other) = record {
       count = _;
       scans = scans_both (term_scans test) (scans_both (body_scans body) (otherwise_scans other));
@@ -365,7 +378,7 @@ module _ (text : List ℕ) where
     }
 
     otherwise_scans : {column : ℕ} {names : List Entry} {ts : List Token} {a : StatementForm}
-        → s.IsOtherwise text column names ts a → Scans resting resting (form_statements a) ts
+        → s.IsOtherwise source column names ts a → Scans resting resting (form_statements a) ts
     otherwise_scans s.none = scans_none resting
     otherwise_scans (s.elif_line start is all) =
         let c = cases_scan all in
@@ -374,20 +387,38 @@ module _ (text : List ℕ) where
         started _ start (passed _ is refl refl (scans_inside (body_scans body)))
 
     body_scans : {column : ℕ} {names : List Entry} {ts : List Token} {a : StatementForm}
-        → s.IsBody text column names ts a → Scans resting resting (form_statements a) ts
+        → s.IsBody source column names ts a → Scans resting resting (form_statements a) ts
     body_scans (s.same_line is simple) = inner _ is refl refl (simple_scans simple)
     body_scans (s.deeper is further block) =
         inner _ is refl refl (also_from_front _ (block_first block) (block_scans block))
 
+module _ (text : List ℕ) where
   -- ---- rules
 
   words_scan : {names all : List Entry} {ts : List Token} → s.AreWords text names ts all → Quiet ts
   words_scan (s.last_word new) = called _ new.named (scans_none resting)
   words_scan (s.word_before new c rest) = called _ new.named (inner _ c refl refl (words_scan rest))
 
-  header_scans : {column : ℕ} {names all : List Entry} {ts : List Token} → s.IsHeader text column names ts all
+  cell_scans : {to : Stage} {n : ℕ} {v : ℕ} {ts : List Token} (t : Token) → s.IsCell t v → Scans resting to n ts
+      → Scans (at Inside) to n (t ∷ ts)
+  cell_scans t (s.a_number is) more = inside t is refl (scans_inside more)
+  cell_scans t (s.no_message is) more = inside t is refl (scans_inside more)
+
+  cells_scan : {done all : List ℕ} {ts : List Token} → s.AreCells done ts all → Quiet ts
+  cells_scan (s.last_cell is) = cell_scans _ is (scans_none resting)
+  cells_scan (s.cell_before is c rest) = cell_scans _ is (inner _ c refl refl (cells_scan rest))
+
+  table_scans : {before more : HeaderForm} {ts : List Token} → s.IsTableLine text before ts more → Quiet ts
+  table_scans h =
+      subst (λ (ts : List Token). Quiet ts) (sym h.tokens)
+      (called h.name h.is_new.named (inner h.becomes h.is_becomes refl refl (inside h.opening h.is_opening refl
+      (scans_both (cells_scan h.are_cells) (inner h.closing h.is_closing refl refl scans_end)))))
+
+  header_scans : {column : ℕ} {before all : HeaderForm} {ts : List Token} → s.IsHeader text column before ts all
       → Scans resting resting 0 ts
-  header_scans s.no_header = scans_none resting
+  header_scans s.no_line = scans_none resting
+  header_scans (s.table_line start is table rest) =
+      started _ start (passed _ is refl refl (scans_both (table_scans table) (header_scans rest)))
   header_scans (s.state_line start is words rest) =
       started _ start (passed _ is refl refl (scans_both (words_scan words) (header_scans rest)))
 
@@ -396,6 +427,7 @@ pub one_line_each : (text : List ℕ) (rule : RuleForm) → rule_read text ≡ O
 one_line_each text rule e =
     let sp = read_spelled text rule e in
     let all = scans_both (header_scans text sp.is_header)
-    (scans_both (block_scans text sp.is_block) (inner sp.end sp.ends refl refl (scans_none (at Inside)))) in
+    (scans_both (block_scans (source_with text sp.named) sp.is_block)
+    (inner sp.end sp.ends refl refl (scans_none (at Inside)))) in
     let found = all.scanned Inside (inl refl) in
     ap (λ (ts : List Token). length (token_lines_from Inside ts)) sp.tokens ∙ found.lines ∙ omega arith

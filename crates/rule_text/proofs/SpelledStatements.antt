@@ -10,12 +10,12 @@ use Rattle.rule_text.specs.declared.signs.Sign.{Sign}
 use Rattle.rule_text.specs.declared.signs.Sign.TheVariants as signs
 use Rattle.rule_text.specs.declared.lexemes.Name.{Name}
 use Rattle.rule_text.specs.declared.lexemes.Kind.{Kind}
-use Rattle.rule_text.specs.declared.lexemes.Kind.TheVariants.{Named, Mark, Fault, LineStart, TextEnd}
+use Rattle.rule_text.specs.declared.lexemes.Kind.TheVariants.{Number, Named, Mark, Fault, LineStart, TextEnd}
 use Rattle.rule_text.specs.declared.lexemes.Position.{Position}
 use Rattle.rule_text.specs.declared.lexemes.Token.{Token}
-use Rattle.rule_text.specs.declared.layout.TheConstants.{MAX_LINES, MAX_LINE_TOKENS}
+use Rattle.rule_text.specs.declared.layout.TheConstants.{MAX_LINES, MAX_LINE_TOKENS, MAX_TABLE_CELLS}
 use Rattle.rule_text.specs.declared.scope.Meaning.{Meaning}
-use Rattle.rule_text.specs.declared.scope.Meaning.TheVariants.{Local, LoopNode, Word}
+use Rattle.rule_text.specs.declared.scope.Meaning.TheVariants.{Local, LoopNode, Word, Table}
 use Rattle.rule_text.specs.declared.scope.Entry.{Entry}
 use Rattle.rule_text.specs.declared.scope.Maker.TheVariants as makers
 use Rattle.rule_text.specs.declared.terms.TheConstants.{MAX_PARTS}
@@ -28,12 +28,18 @@ use Rattle.rule_text.specs.declared.lexemes.Class.TheVariants.{Digits, Letters, 
 use Rattle.rule_text.specs.declared.lexemes.TheConstants.{MAX_NAME_LETTERS}
 use Rattle.rule_text.specs.declared.layout.Lines.{Lines}
 use Rattle.rule_text.specs.Signs.{sign_of}
-use Rattle.rule_text.specs.Tokens.{begins_line, laid, is_space, is_digit, begins_name, run, number_spelled, number_kind, name_kind, reserved_kind, word_kind, lexeme, no_lexeme, number_lexeme, word_from, word_lexeme, marked_or, sign_lexeme, lexeme_at, first_place, first_end, end_after, past, tokens_at, lexemes_from, lexemes_of, of_kind, first_lines, beyond, start_kind, inner_kind, is_end, laid_from, tokens_of}
+use Rattle.node_env.specs.declared.env.TheConstants.{NO_MAIL}
+use Rattle.rule_text.specs.Tables.{SourceForm, HeaderForm, no_header, source_with}
+use Rattle.rule_text.specs.Tokens.{is_past_limit, begins_line, laid, is_space, is_digit, begins_name, run, number_spelled, number_kind, name_kind, reserved_kind, word_kind, lexeme, no_lexeme, number_lexeme, word_from, word_lexeme, marked_or, sign_lexeme, lexeme_at, first_place, first_end, end_after, past, tokens_at, lexemes_from, lexemes_of, of_kind, first_lines, beyond, start_kind, inner_kind, is_end, laid_from, tokens_of}
 use Rattle.rule_text.specs.Scopes.{◌>>=◌, rule_error_at, error_in, meaning_of, words_of, new_name}
 use Rattle.rule_text.specs.Terms.{rest_after, wanted, term_read}
-use Rattle.rule_text.specs.Statements.{target_meant, target_marked, target_by, has_target, with_target, more_targets, new_target, targets_read, values_read, numbers_read, assign_read, send_rest, send_read, let_read, simple_by, simple_read, Inner, is_start, deeper_read, block_read, body_read, other_by, other_read, branch_read, followed, statement_by, line_read, start_read, rest_by, rest_read, lines_read, state_names, after_state, header_read, RuleForm, ended, first_column, rule_in, rule_read}
+use Rattle.rule_text.specs.Statements.{target_meant, target_marked, target_by, has_target, with_target, more_targets, new_target, targets_read, values_read, numbers_read, assign_read, send_rest, send_read, let_read, simple_by, simple_read, Inner, is_start, deeper_read, block_read, body_read, other_by, other_read, branch_read, followed, statement_by, line_read, start_read, rest_by, rest_read, lines_read, state_names, cell_by, cell_read, cells_read, table_read, states_read, after_heading, header_read, RuleForm, ended, first_column, rule_in, rule_read}
 use Rattle.rule_text.specs.Spelling as s
 use Rattle.rule_text.proofs.SpelledTerms.{Reads, fails, gives, read_then, implied, by_option, by_test, Took, took, took_end, took_more, took_past, took_then, took_of, after_front, wanted_reads, took_front, new_reads, took_new, term_reads}
+
+start_is : (kind : Kind) → is_start kind ≡ true → kind ≡ LineStart
+start_is LineStart e = refl
+start_is kind e = absurd (let no : false ≡ true = e in cc)
 
 module _ (text : List ℕ) where
   -- ---- assignments
@@ -44,6 +50,7 @@ module _ (text : List ℕ) where
     meant_reads name t (Some (Local k)) e f = gives (ToLocal k) (s.a_let {name = name} (record { is = e }) f)
     meant_reads name t (Some (Word k)) e f = gives (ToWord k) (s.a_word {name = name} (record { is = e }) f)
     meant_reads name t (Some (LoopNode k)) e f = fails (rule_error_at NotAssignable t)
+    meant_reads name t (Some (Table k)) e f = fails (rule_error_at NotAssignable t)
     meant_reads name t None e f = fails (rule_error_at UnknownName t)
 
     marked_reads : (sign : Sign) (t : Token) → t.kind ≡ Mark sign → Reads (target_marked sign t) (s.IsTarget text names t)
@@ -145,75 +152,82 @@ module _ (text : List ℕ) where
           sign = sign;
         }))))))))
 
+module _ (source : SourceForm) where
+  -- ---- numbers
+
+  module _ (names : List Entry) where
     values_reads : (targets done : List Target) (front : AssignmentForm) (before ts : List Token)
-        → s.AreTerms text names before done front → Reads (values_read text names front targets ts)
-        (λ x. Took ts x.1 (λ us. s.AreTerms text names (before ++ us) (done ++ targets) x.0))
+        → s.AreTerms source names before done front → Reads (values_read source names front targets ts)
+        (λ x. Took ts x.1 (λ us. s.AreTerms source names (before ++ us) (done ++ targets) x.0))
     values_reads [] done front before ts are =
-        gives (front, ts) (took_end (subst (λ (l : List Target). s.AreTerms text names (before ++ []) l front)
-        (sym (append-nil done)) (subst (λ (l : List Token). s.AreTerms text names l done front)
+        gives (front, ts) (took_end (subst (λ (l : List Target). s.AreTerms source names (before ++ []) l front)
+        (sym (append-nil done)) (subst (λ (l : List Token). s.AreTerms source names l done front)
         (sym (append-nil before)) are)))
     values_reads (target ∷ targets) done front before ts are =
-        read_then (wanted signs.Comma ts) (λ rest. term_read text names rest
-        >>= λ e. values_read text names (also front target e.0) targets e.1) (wanted_reads signs.Comma ts)
-        (λ rest commas. read_then (term_read text names rest)
-        (λ e. values_read text names (also front target e.0) targets e.1) (term_reads text names rest)
-        (λ e is. implied (values_read text names (also front target e.0) targets e.1)
+        read_then (wanted signs.Comma ts) (λ rest. term_read source names rest
+        >>= λ e. values_read source names (also front target e.0) targets e.1) (wanted_reads signs.Comma ts)
+        (λ rest commas. read_then (term_read source names rest)
+        (λ e. values_read source names (also front target e.0) targets e.1) (term_reads source names rest)
+        (λ e is. implied (values_read source names (also front target e.0) targets e.1)
         (values_reads targets (done ++ (target ∷ [])) (also front target e.0) (before ++ (commas.first ∷ is.used)) e.1
         (s.next_number are commas.sign is.is))
         (λ x t. took_of commas.split (took_more commas.first (took_past is (took t (λ us all.
-        subst (λ (l : List Target). s.AreTerms text names (before ++ (commas.first ∷ (is.used ++ us))) l x.0)
+        subst (λ (l : List Target). s.AreTerms source names (before ++ (commas.first ∷ (is.used ++ us))) l x.0)
         (append_assoc done (target ∷ []) targets)
-        (subst (λ (l : List Token). s.AreTerms text names l ((done ++ (target ∷ [])) ++ targets) x.0)
+        (subst (λ (l : List Token). s.AreTerms source names l ((done ++ (target ∷ [])) ++ targets) x.0)
         (append_assoc before (commas.first ∷ is.used) us) all))))))))
 
     numbers_reads : (left : List Token) (becomes : Token) (targets : List Target) (ts : List Token)
-        → s.AreTargets text names left targets → s.IsSign signs.Becomes becomes
-        → Reads (numbers_read text names targets ts)
-        (λ x. Took ts x.1 (λ us. s.IsAction text names (left ++ (becomes ∷ us)) x.0))
+        → s.AreTargets source.text names left targets → s.IsSign signs.Becomes becomes
+        → Reads (numbers_read source names targets ts)
+        (λ x. Took ts x.1 (λ us. s.IsAction source names (left ++ (becomes ∷ us)) x.0))
     numbers_reads left becomes [] ts are sign = fails (error_in Expected ts)
     numbers_reads left becomes (target ∷ targets) ts are sign =
-        read_then (term_read text names ts) (λ e. values_read text names (one target e.0) targets e.1
-        >>= λ a. Ok (assign a.0, a.1)) (term_reads text names ts)
-        (λ e is. read_then (values_read text names (one target e.0) targets e.1) (λ a. Ok (assign a.0, a.1))
+        read_then (term_read source names ts) (λ e. values_read source names (one target e.0) targets e.1
+        >>= λ a. Ok (assign a.0, a.1)) (term_reads source names ts)
+        (λ e is. read_then (values_read source names (one target e.0) targets e.1) (λ a. Ok (assign a.0, a.1))
         (values_reads targets (target ∷ []) (one target e.0) is.used e.1 (s.first_number is.is))
         (λ a t. gives (assign a.0, a.1) (took_past is (took t (λ us all. s.set are sign all)))))
 
     assign_reads : (ts : List Token)
-        → Reads (assign_read text names ts) (λ x. Took ts x.1 (λ us. s.IsAction text names us x.0))
+        → Reads (assign_read source names ts) (λ x. Took ts x.1 (λ us. s.IsAction source names us x.0))
     assign_reads ts =
-        read_then (targets_read MAX_LINE_TOKENS text names [] ts) (λ targets. numbers_read text names targets.0 targets.1)
-        (lefts_read MAX_LINE_TOKENS [] [] ts (λ t target is once. s.first_target is))
+        read_then (targets_read MAX_LINE_TOKENS source.text names [] ts)
+        (λ targets. numbers_read source names targets.0 targets.1)
+        (lefts_read source.text names MAX_LINE_TOKENS [] [] ts (λ t target is once. s.first_target is))
         (λ targets l. let p = l.is in
-        implied (numbers_read text names targets.0 targets.1)
+        implied (numbers_read source names targets.0 targets.1)
         (numbers_reads p.left p.becomes targets.0 targets.1 p.are p.sign)
-        (λ x t. took_past l (took t (λ us is. subst (λ (l : List Token). s.IsAction text names l x.0)
+        (λ x t. took_past l (took t (λ us is. subst (λ (l : List Token). s.IsAction source names l x.0)
         (sym (append_assoc p.left (p.becomes ∷ []) us) ∙ ap (λ (l : List Token). l ++ us) (sym p.split)) is))))
 
     -- ---- simple statements
 
     send_reads : (t : Token) (ts : List Token) → t.kind ≡ Mark signs.Send
-        → Reads (send_read text names ts) (λ x. Took (t ∷ ts) x.1 (λ us. s.IsAction text names us x.0))
+        → Reads (send_read source names ts) (λ x. Took (t ∷ ts) x.1 (λ us. s.IsAction source names us x.0))
     send_reads t ts e =
-        read_then (term_read text names ts) (λ number. send_rest text names number.0 number.1) (term_reads text names ts)
+        read_then (term_read source names ts) (λ number. send_rest source names number.0 number.1)
+        (term_reads source names ts)
         (λ number is. by_option (rest_after signs.To number.1)
-        (λ rest. term_read text names rest >>= λ k. Ok (send_to number.0 k.0, k.1)) (Ok (send_all number.0, number.1))
-        (λ rest f. read_then (term_read text names rest) (λ k. Ok (send_to number.0 k.0, k.1)) (term_reads text names rest)
+        (λ rest. term_read source names rest >>= λ k. Ok (send_to number.0 k.0, k.1)) (Ok (send_all number.0, number.1))
+        (λ rest f. read_then (term_read source names rest) (λ k. Ok (send_to number.0 k.0, k.1))
+        (term_reads source names rest)
         (λ k other. gives (send_to number.0 k.0, k.1) (took_more t (took_then is (λ us a.
         took_front (after_front signs.To number.1 rest f) (λ o sign. took other (λ vs b.
         s.sent_to (record { is = e }) a sign b)))))))
         (λ f. gives (send_all number.0, number.1) (took_more t (took is (λ us a. s.sent (record { is = e }) a)))))
 
     let_reads : (t : Token) (ts : List Token) → t.kind ≡ Mark signs.Let
-        → Reads (let_read text names ts) (λ x. Took (t ∷ ts) x.2 (λ us. s.IsLet text names us x.1 x.0))
+        → Reads (let_read source names ts) (λ x. Took (t ∷ ts) x.2 (λ us. s.IsLet source names us x.1 x.0))
     let_reads t ts e =
-        read_then (new_name text makers.Let names ts) (λ more. wanted signs.Becomes more.1
-        >>= λ rest. term_read text names rest >>= λ number. Ok (number.0, more.0, number.1))
-        (new_reads text makers.Let names ts)
-        (λ more new. read_then (wanted signs.Becomes more.1) (λ rest. term_read text names rest
+        read_then (new_name source.text makers.Let names ts) (λ more. wanted signs.Becomes more.1
+        >>= λ rest. term_read source names rest >>= λ number. Ok (number.0, more.0, number.1))
+        (new_reads source.text makers.Let names ts)
+        (λ more new. read_then (wanted signs.Becomes more.1) (λ rest. term_read source names rest
         >>= λ number. Ok (number.0, more.0, number.1)) (wanted_reads signs.Becomes more.1)
-        (λ rest becomes. read_then (term_read text names rest) (λ number. Ok (number.0, more.0, number.1))
-        (term_reads text names rest)
-        (λ number is. gives (number.0, more.0, number.1) (took_more t (took_new text new (λ n is_new.
+        (λ rest becomes. read_then (term_read source names rest) (λ number. Ok (number.0, more.0, number.1))
+        (term_reads source names rest)
+        (λ number is. gives (number.0, more.0, number.1) (took_more t (took_new source.text new (λ n is_new.
         took_front becomes (λ b sign. took is (λ us term. record {
           «let» = t;
           name = n;
@@ -231,56 +245,52 @@ module _ (text : List ℕ) where
     is_let kind = false
 
     action_reads : (kind : Kind) (t : Token) (ts : List Token) → t.kind ≡ kind → is_let kind ≡ false
-        → Reads (simple_by text names kind t ts) (λ x. Took (t ∷ ts) x.1 (λ us. s.IsAction text names us x.0))
+        → Reads (simple_by source names kind t ts) (λ x. Took (t ∷ ts) x.1 (λ us. s.IsAction source names us x.0))
     action_reads (Mark signs.Let) t ts e f = absurd (let no : true ≡ false = f in cc)
     action_reads (Mark signs.Send) t ts e f = send_reads t ts e
     action_reads kind t ts e f = assign_reads (t ∷ ts)
 
     acted : (kind : Kind) (t : Token) (ts : List Token) → t.kind ≡ kind → is_let kind ≡ false
-        → Reads (simple_by text names kind t ts) (λ x. Took (t ∷ ts) x.1 (λ us. s.IsSimple text names us x.0))
-    acted kind t ts e f = implied (simple_by text names kind t ts) (action_reads kind t ts e f)
+        → Reads (simple_by source names kind t ts) (λ x. Took (t ∷ ts) x.1 (λ us. s.IsSimple source names us x.0))
+    acted kind t ts e f = implied (simple_by source names kind t ts) (action_reads kind t ts e f)
         (λ x is. took is (λ us a. s.action a))
 
     kind_reads : (kind : Kind) (t : Token) (ts : List Token) → t.kind ≡ kind
-        → Reads (simple_by text names kind t ts) (λ x. Took (t ∷ ts) x.1 (λ us. s.IsSimple text names us x.0))
+        → Reads (simple_by source names kind t ts) (λ x. Took (t ∷ ts) x.1 (λ us. s.IsSimple source names us x.0))
     kind_reads (Mark signs.Let) t ts e =
-        read_then (let_read text names ts) (λ x. Ok (let_in x.0 nothing, x.2)) (let_reads t ts e)
+        read_then (let_read source names ts) (λ x. Ok (let_in x.0 nothing, x.2)) (let_reads t ts e)
         (λ x is. gives (let_in x.0 nothing, x.2) (took is (λ us l. s.let_alone l)))
     kind_reads kind t ts e = acted kind t ts e refl
 
     simple_reads : (ts : List Token)
-        → Reads (simple_read text names ts) (λ x. Took ts x.1 (λ us. s.IsSimple text names us x.0))
+        → Reads (simple_read source names ts) (λ x. Took ts x.1 (λ us. s.IsSimple source names us x.0))
     simple_reads [] = fails (error_in Expected [])
     simple_reads (t ∷ ts) = kind_reads t.kind t ts refl
 
     -- a first token that is no "let"
     action_line : (kind : Kind) (t : Token) (ts : List Token) → t.kind ≡ kind → is_let kind ≡ false
-        → Reads (simple_read text names (t ∷ ts)) (λ x. Took (t ∷ ts) x.1 (λ us. s.IsAction text names us x.0))
+        → Reads (simple_read source names (t ∷ ts)) (λ x. Took (t ∷ ts) x.1 (λ us. s.IsAction source names us x.0))
     action_line kind t ts e f = action_reads t.kind t ts refl (ap is_let e ∙ f)
 
   -- ---- blocks
 
-  start_is : (kind : Kind) → is_start kind ≡ true → kind ≡ LineStart
-  start_is LineStart e = refl
-  start_is kind e = absurd (let no : false ≡ true = e in cc)
-
   -- further lines are read so; those that begin with the start of a line of their column take it
   pub record Spelled (inner : Inner) : Type 0 where
     pub rest : (room column : ℕ) (names : List Entry) (ts : List Token)
-        → Reads (inner Rest room column names ts) (λ x. Took ts x.1 (λ us. s.IsBlock text column names us x.0))
+        → Reads (inner Rest room column names ts) (λ x. Took ts x.1 (λ us. s.IsBlock source column names us x.0))
     pub branch : (room column : ℕ) (names : List Entry) (ts : List Token)
-        → Reads (inner Branch room column names ts) (λ x. Took ts x.1 (λ us. s.AreCases text column names us x.0))
+        → Reads (inner Branch room column names ts) (λ x. Took ts x.1 (λ us. s.AreCases source column names us x.0))
     pub begun : (room : ℕ) (names : List Entry) (t : Token) (ts : List Token) → t.kind ≡ LineStart
         → Reads (inner Rest room t.column names (t ∷ ts))
-        (λ x. Took ts x.1 (λ us. s.IsBlock text t.column names (t ∷ us) x.0))
+        (λ x. Took ts x.1 (λ us. s.IsBlock source t.column names (t ∷ us) x.0))
 
   module _ (inner : Inner) (spelled : Spelled inner) (room column : ℕ) where
     block_reads : (names : List Entry) (c : Token) (ts : List Token) → s.IsSign signs.Colon c
-        → Reads (block_read inner text room column names ts)
-        (λ x. Took (c ∷ ts) x.1 (λ us. s.IsBody text column names us x.0))
+        → Reads (block_read inner source room column names ts)
+        (λ x. Took (c ∷ ts) x.1 (λ us. s.IsBody source column names us x.0))
     block_reads names c [] sign = fails (error_in Expected [])
     block_reads names c (t ∷ ts) sign =
-        by_test (is_start t.kind) (deeper_read inner room column names t (t ∷ ts)) (simple_read text names (t ∷ ts))
+        by_test (is_start t.kind) (deeper_read inner room column names t (t ∷ ts)) (simple_read source names (t ∷ ts))
         (λ starts. by_test (nat_le t.column column) (Err (rule_error_at Expected t))
         (if room == 0 then Err (rule_error_at TooDeep t) else inner Rest (room - 1) t.column names (t ∷ ts))
         (λ e. fails (rule_error_at Expected t))
@@ -290,49 +300,50 @@ module _ (text : List ℕ) where
         (spelled.begun (room - 1) names t ts (start_is t.kind starts))
         (λ x is. took_more c (took_more t (took is (λ us block.
         s.deeper sign (leb-false t.column column further) block)))))))
-        (λ e. implied (simple_read text names (t ∷ ts)) (simple_reads names (t ∷ ts))
+        (λ e. implied (simple_read source names (t ∷ ts)) (simple_reads names (t ∷ ts))
         (λ x is. took_more c (took is (λ us a. s.same_line sign a))))
 
-    body_reads : (names : List Entry) (ts : List Token) → Reads (body_read inner text room column names ts)
-        (λ x. Took ts x.1 (λ us. s.IsBody text column names us x.0))
+    body_reads : (names : List Entry) (ts : List Token) → Reads (body_read inner source room column names ts)
+        (λ x. Took ts x.1 (λ us. s.IsBody source column names us x.0))
     body_reads names ts =
-        read_then (wanted signs.Colon ts) (λ rest. block_read inner text room column names rest)
+        read_then (wanted signs.Colon ts) (λ rest. block_read inner source room column names rest)
         (wanted_reads signs.Colon ts)
-        (λ rest colons. implied (block_read inner text room column names rest)
+        (λ rest colons. implied (block_read inner source room column names rest)
         (block_reads names colons.first rest colons.sign) (λ x is. took_of colons.split is))
 
     other_by_reads : (names : List Entry) (kind : Kind) (t u : Token) (us : List Token) → s.IsLineStart column t
-        → u.kind ≡ kind → Reads (other_by inner text room column names kind t u us)
-        (λ x. Took (t ∷ u ∷ us) x.1 (λ vs. s.IsOtherwise text column names vs x.0))
+        → u.kind ≡ kind → Reads (other_by inner source room column names kind t u us)
+        (λ x. Took (t ∷ u ∷ us) x.1 (λ vs. s.IsOtherwise source column names vs x.0))
     other_by_reads names (Mark signs.Elif) t u us start e =
         implied (inner Branch room column names us) (spelled.branch room column names us)
         (λ x is. took_more t (took_more u (took is (λ vs a. s.elif_line start (record { is = e }) a))))
     other_by_reads names (Mark signs.Else) t u us start e =
-        implied (body_read inner text room column names us) (body_reads names us)
+        implied (body_read inner source room column names us) (body_reads names us)
         (λ x is. took_more t (took_more u (took is (λ vs a. s.else_line start (record { is = e }) a))))
     other_by_reads names kind t u us start e = gives (nothing, t ∷ u ∷ us) (took_end s.none)
 
-    other_reads : (names : List Entry) (ts : List Token) → Reads (other_read inner text room column names ts)
-        (λ x. Took ts x.1 (λ us. s.IsOtherwise text column names us x.0))
+    other_reads : (names : List Entry) (ts : List Token) → Reads (other_read inner source room column names ts)
+        (λ x. Took ts x.1 (λ us. s.IsOtherwise source column names us x.0))
     other_reads names [] = gives (nothing, []) (took_end s.none)
     other_reads names (t ∷ []) = gives (nothing, t ∷ []) (took_end s.none)
     other_reads names (t ∷ u ∷ us) =
-        by_test (is_start t.kind && (t.column == column)) (other_by inner text room column names u.kind t u us)
+        by_test (is_start t.kind && (t.column == column)) (other_by inner source room column names u.kind t u us)
         (Ok (nothing, t ∷ u ∷ us))
         (λ e. let p = and_parts (is_start t.kind) (t.column == column) e in
         other_by_reads names u.kind t u us
         (record { start = record { is = start_is t.kind p.0 }; at = eqb-true t.column column p.1 }) refl)
         (λ e. gives (nothing, t ∷ u ∷ us) (took_end s.none))
 
-    branch_reads : (names : List Entry) (ts : List Token) → Reads (branch_read inner text room column names ts)
-        (λ x. Took ts x.1 (λ us. s.AreCases text column names us x.0))
+    branch_reads : (names : List Entry) (ts : List Token) → Reads (branch_read inner source room column names ts)
+        (λ x. Took ts x.1 (λ us. s.AreCases source column names us x.0))
     branch_reads names ts =
-        read_then (term_read text names ts) (λ t. body_read inner text room column names t.1
-        >>= λ a. other_read inner text room column names a.1 >>= λ b. Ok (branch t.0 a.0 b.0, b.1))
-        (term_reads text names ts)
-        (λ t test. read_then (body_read inner text room column names t.1)
-        (λ a. other_read inner text room column names a.1 >>= λ b. Ok (branch t.0 a.0 b.0, b.1)) (body_reads names t.1)
-        (λ a first. read_then (other_read inner text room column names a.1) (λ b. Ok (branch t.0 a.0 b.0, b.1))
+        read_then (term_read source names ts) (λ t. body_read inner source room column names t.1
+        >>= λ a. other_read inner source room column names a.1 >>= λ b. Ok (branch t.0 a.0 b.0, b.1))
+        (term_reads source names ts)
+        (λ t test. read_then (body_read inner source room column names t.1)
+        (λ a. other_read inner source room column names a.1 >>= λ b. Ok (branch t.0 a.0 b.0, b.1))
+        (body_reads names t.1)
+        (λ a first. read_then (other_read inner source room column names a.1) (λ b. Ok (branch t.0 a.0 b.0, b.1))
         (other_reads names a.1)
         (λ b second. gives (branch t.0 a.0 b.0, b.1) (took_then test (λ us term. took_then first (λ vs body.
         took second (λ ws other. s.cases term body other)))))))
@@ -341,11 +352,11 @@ module _ (text : List ℕ) where
 
     module _ (start : Token) (is_start : s.IsLineStart column start) where
       abbrev IsLine : List Entry → List Token → StatementForm × List Token → Type 0
-      IsLine names ts x = Took ts x.1 (λ us. s.IsBlock text column names (start ∷ us) x.0)
+      IsLine names ts x = Took ts x.1 (λ us. s.IsBlock source column names (start ∷ us) x.0)
 
       -- what follows the statement that took the front of the tokens
       followed_reads : (names : List Entry) (ts mid : List Token) (a : StatementForm)
-          → Took ts mid (λ us. s.IsStatement text column names us a)
+          → Took ts mid (λ us. s.IsStatement source column names us a)
           → Reads (followed inner room column names a mid) (IsLine names ts)
       followed_reads names ts mid a statement =
           read_then (inner Rest room column names mid) (λ rest. Ok (sequence a rest.0, rest.1))
@@ -354,78 +365,85 @@ module _ (text : List ℕ) where
           s.line is_start one block))))
 
       line_by_reads : (names : List Entry) (kind : Kind) (t : Token) (ts : List Token) → t.kind ≡ kind
-          → Reads (statement_by inner text room column names kind t ts) (IsLine names (t ∷ ts))
+          → Reads (statement_by inner source room column names kind t ts) (IsLine names (t ∷ ts))
       line_by_reads names (Mark signs.Let) t ts e =
-          read_then (let_read text names ts) (λ x. inner Rest room column x.1 x.2 >>= λ rest. Ok (let_in x.0 rest.0, rest.1))
+          read_then (let_read source names ts)
+          (λ x. inner Rest room column x.1 x.2 >>= λ rest. Ok (let_in x.0 rest.0, rest.1))
           (let_reads names t ts e)
           (λ x first. read_then (inner Rest room column x.1 x.2) (λ rest. Ok (let_in x.0 rest.0, rest.1))
           (spelled.rest room column x.1 x.2)
           (λ rest is. gives (let_in x.0 rest.0, rest.1) (took_then first (λ us l. took is (λ vs block.
           s.let_line is_start l block)))))
       line_by_reads names (Mark signs.For) t ts e =
-          read_then (new_name text makers.Loop names ts) (λ more. body_read inner text room column more.0 more.1
-          >>= λ body. followed inner room column names (each body.0) body.1) (new_reads text makers.Loop names ts)
-          (λ more new. read_then (body_read inner text room column more.0 more.1)
+          read_then (new_name source.text makers.Loop names ts)
+          (λ more. body_read inner source room column more.0 more.1
+          >>= λ body. followed inner room column names (each body.0) body.1)
+          (new_reads source.text makers.Loop names ts)
+          (λ more new. read_then (body_read inner source room column more.0 more.1)
           (λ body. followed inner room column names (each body.0) body.1) (body_reads more.0 more.1)
           (λ body is. followed_reads names (t ∷ ts) body.1 (each body.0)
-          (took_more t (took_new text new (λ n is_new. took is (λ us b. s.loop (record { is = e }) is_new b))))))
+          (took_more t (took_new source.text new (λ n is_new. took is (λ us b. s.loop (record { is = e }) is_new b))))))
       line_by_reads names (Mark signs.If) t ts e =
           read_then (inner Branch room column names ts) (λ a. followed inner room column names a.0 a.1)
           (spelled.branch room column names ts)
           (λ a is. followed_reads names (t ∷ ts) a.1 a.0
           (took_more t (took is (λ us b. s.case (record { is = e }) b))))
       line_by_reads names kind t ts e =
-          read_then (simple_read text names (t ∷ ts)) (λ a. followed inner room column names a.0 a.1)
+          read_then (simple_read source names (t ∷ ts)) (λ a. followed inner room column names a.0 a.1)
           (action_line names kind t ts e refl)
           (λ a is. followed_reads names (t ∷ ts) a.1 a.0 (took is (λ us b. s.does b)))
 
       line_reads : (names : List Entry) (ts : List Token)
-          → Reads (line_read inner text room column names ts) (IsLine names ts)
+          → Reads (line_read inner source room column names ts) (IsLine names ts)
       line_reads names [] = fails (error_in Expected [])
       line_reads names (t ∷ ts) = line_by_reads names t.kind t ts refl
 
     started_reads : (names : List Entry) (t : Token) (ts : List Token) → t.kind ≡ LineStart
-        → Reads (start_read inner text room column names t ts)
-        (λ x. Took (t ∷ ts) x.1 (λ us. s.IsBlock text column names us x.0))
+        → Reads (start_read inner source room column names t ts)
+        (λ x. Took (t ∷ ts) x.1 (λ us. s.IsBlock source column names us x.0))
     started_reads names t ts e =
         by_test (nat_lt t.column column) (Ok (nothing, t ∷ ts))
-        (if nat_lt column t.column then Err (rule_error_at BadIndent t) else line_read inner text room column names ts)
+        (if nat_lt column t.column then Err (rule_error_at BadIndent t) else line_read inner source room column names
+        ts)
         (λ left. gives (nothing, t ∷ ts) (took_end s.empty))
-        (λ f. by_test (nat_lt column t.column) (Err (rule_error_at BadIndent t)) (line_read inner text room column names ts)
+        (λ f. by_test (nat_lt column t.column) (Err (rule_error_at BadIndent t))
+        (line_read inner source room column names ts)
         (λ right. fails (rule_error_at BadIndent t))
         (λ g. let low = ltb-false t.column column f in
         let high = ltb-false column t.column g in
-        implied (line_read inner text room column names ts)
+        implied (line_read inner source room column names ts)
         (line_reads t (record { start = record { is = e }; at = omega (arith, low, high) }) names ts)
         (λ x is. took_more t is)))
 
     rest_by_reads : (names : List Entry) (kind : Kind) (t : Token) (ts : List Token) → t.kind ≡ kind
-        → Reads (rest_by inner text room column names kind t ts)
-        (λ x. Took (t ∷ ts) x.1 (λ us. s.IsBlock text column names us x.0))
+        → Reads (rest_by inner source room column names kind t ts)
+        (λ x. Took (t ∷ ts) x.1 (λ us. s.IsBlock source column names us x.0))
     rest_by_reads names TextEnd t ts e = gives (nothing, t ∷ ts) (took_end s.empty)
     rest_by_reads names LineStart t ts e = started_reads names t ts e
     rest_by_reads names kind t ts e = fails (rule_error_at Expected t)
 
-    rest_reads : (names : List Entry) (ts : List Token) → Reads (rest_read inner text room column names ts)
-        (λ x. Took ts x.1 (λ us. s.IsBlock text column names us x.0))
+    rest_reads : (names : List Entry) (ts : List Token) → Reads (rest_read inner source room column names ts)
+        (λ x. Took ts x.1 (λ us. s.IsBlock source column names us x.0))
     rest_reads names [] = fails (error_in Expected [])
     rest_reads names (t ∷ ts) = rest_by_reads names t.kind t ts refl
 
   begun_reads : (inner : Inner) → Spelled inner → (room : ℕ) (names : List Entry) (t : Token) (ts : List Token)
-      → t.kind ≡ LineStart → Reads (rest_read inner text room t.column names (t ∷ ts))
-      (λ x. Took ts x.1 (λ us. s.IsBlock text t.column names (t ∷ us) x.0))
+      → t.kind ≡ LineStart → Reads (rest_read inner source room t.column names (t ∷ ts))
+      (λ x. Took ts x.1 (λ us. s.IsBlock source t.column names (t ∷ us) x.0))
   begun_reads inner spelled room names t ts e =
       let Goal : StatementForm × List Token → Type 0 =
-      λ x. Took ts x.1 (λ us. s.IsBlock text t.column names (t ∷ us) x.0) in
-      subst (λ (kind : Kind). Reads (rest_by inner text room t.column names kind t ts) Goal) (sym e)
+      λ x. Took ts x.1 (λ us. s.IsBlock source t.column names (t ∷ us) x.0) in
+      subst (λ (kind : Kind). Reads (rest_by inner source room t.column names kind t ts) Goal) (sym e)
       (by_test (nat_lt t.column t.column) (Ok (nothing, t ∷ ts))
-      (if nat_lt t.column t.column then Err (rule_error_at BadIndent t) else line_read inner text room t.column names ts)
+      (if nat_lt t.column t.column then Err (rule_error_at BadIndent t) else line_read inner source room t.column names
+      ts)
       (λ less. absurd (let no = ltb-true t.column t.column less in omega (arith, no)))
-      (λ f. by_test (nat_lt t.column t.column) (Err (rule_error_at BadIndent t)) (line_read inner text room t.column names ts)
+      (λ f. by_test (nat_lt t.column t.column) (Err (rule_error_at BadIndent t))
+      (line_read inner source room t.column names ts)
       (λ less. fails (rule_error_at BadIndent t))
       (λ g. line_reads inner spelled room t.column t (record { start = record { is = e }; at = refl }) names ts)))
 
-  pub lines_spelled : (left : ℕ) → Spelled (lines_read left text)
+  pub lines_spelled : (left : ℕ) → Spelled (lines_read left source)
   unfolding lines_read
   lines_spelled zero = record {
     rest = λ room column names ts. fails (error_in TooLong ts);
@@ -435,11 +453,12 @@ module _ (text : List ℕ) where
   lines_spelled (suc left) =
       let more = lines_spelled left in
       record {
-        rest = rest_reads (lines_read left text) more;
-        branch = branch_reads (lines_read left text) more;
-        begun = begun_reads (lines_read left text) more;
+        rest = rest_reads (lines_read left source) more;
+        branch = branch_reads (lines_read left source) more;
+        begun = begun_reads (lines_read left source) more;
       }
 
+module _ (text : List ℕ) where
   -- ---- rules
 
   words_read : (left : ℕ) (names : List Entry) (ts : List Token) → Reads (state_names left text names ts)
@@ -458,23 +477,114 @@ module _ (text : List ℕ) where
       took is (λ us words. s.word_before is_new sign words)))))
       (λ e. gives more (took_new text new (λ t is_new. took_end (s.last_word is_new)))))
 
-  -- a line of the column that begins with "state"
-  record State (column : ℕ) (ts rest : List Token) : Type 0 where
+  -- ---- cells
+
+  cell_by_reads : (kind : Kind) (t : Token) → t.kind ≡ kind → Reads (cell_by kind t) (s.IsCell t)
+  cell_by_reads (Number v) t e = gives v (s.a_number (record { is = e }))
+  cell_by_reads (Mark signs.NoMessage) t e = gives NO_MAIL (s.no_message (record { is = e }))
+  cell_by_reads kind t e = fails (rule_error_at Expected t)
+
+  -- the first token is a cell
+  record FrontCell (v : ℕ) (ts rest : List Token) : Type 0 where
+    pub first : Token
+    pub split : ts ≡ first ∷ rest
+    pub is : s.IsCell first v
+
+  cell_reads : (ts : List Token) → Reads (cell_read ts) (λ x. FrontCell x.0 ts x.1)
+  cell_reads [] = fails (error_in Expected [])
+  cell_reads (t ∷ ts) =
+      read_then (cell_by t.kind t) (λ v. Ok (v, ts)) (cell_by_reads t.kind t refl)
+      (λ v is. gives (v, ts) (record { first = t; split = refl; is = is }))
+
+  cells_reads : (left : ℕ) (done : List ℕ) (ts : List Token) → Reads (cells_read left done ts)
+      (λ x. Took ts x.1 (λ us. s.AreCells done us x.0))
+  unfolding cells_read
+  cells_reads zero done ts = fails (error_in TooLong ts)
+  cells_reads (suc left) done ts =
+      read_then (cell_read ts)
+      (λ cell. elim (rest_after signs.Comma cell.1) [
+        | Some rest ↦ cells_read left (done ++ cell.0 ∷ []) rest
+        | None ↦ Ok (done ++ cell.0 ∷ [], cell.1)
+      ]) (cell_reads ts)
+      (λ cell front. by_option (rest_after signs.Comma cell.1) (λ rest. cells_read left (done ++ cell.0 ∷ []) rest)
+      (Ok (done ++ cell.0 ∷ [], cell.1))
+      (λ rest e. implied (cells_read left (done ++ cell.0 ∷ []) rest) (cells_reads left (done ++ cell.0 ∷ []) rest)
+      (λ x is. took_of front.split (took_more front.first (took_front (after_front signs.Comma cell.1 rest e) (λ c sign.
+      took is (λ us cells. s.cell_before front.is sign cells))))))
+      (λ e. gives (done ++ cell.0 ∷ [], cell.1)
+      (took_of front.split (took_more front.first (took_end (s.last_cell front.is))))))
+
+  -- ---- the header
+
+  -- what follows "table"
+  table_reads : (before : HeaderForm) (ts : List Token) → Reads (table_read text before ts)
+      (λ x. Took ts x.1 (λ us. s.IsTableLine text before us x.0))
+  table_reads before ts =
+      let made : List Entry → List ℕ → HeaderForm =
+      λ names cells. record { names = names; tables = before.tables ++ cells ∷ [] } in
+      read_then (new_name text makers.Table before.names ts) (λ more. wanted signs.Becomes more.1
+      >>= λ opening. wanted signs.OpenSquare opening >>= λ inside. cells_read MAX_TABLE_CELLS [] inside
+      >>= λ cells. wanted signs.CloseSquare cells.1 >>= λ rest. Ok (made more.0 cells.0, rest))
+      (new_reads text makers.Table before.names ts)
+      (λ more new. read_then (wanted signs.Becomes more.1) (λ opening. wanted signs.OpenSquare opening
+      >>= λ inside. cells_read MAX_TABLE_CELLS [] inside
+      >>= λ cells. wanted signs.CloseSquare cells.1 >>= λ rest. Ok (made more.0 cells.0, rest))
+      (wanted_reads signs.Becomes more.1)
+      (λ opening becomes. read_then (wanted signs.OpenSquare opening) (λ inside. cells_read MAX_TABLE_CELLS [] inside
+      >>= λ cells. wanted signs.CloseSquare cells.1 >>= λ rest. Ok (made more.0 cells.0, rest))
+      (wanted_reads signs.OpenSquare opening)
+      (λ inside opens. read_then (cells_read MAX_TABLE_CELLS [] inside)
+      (λ cells. wanted signs.CloseSquare cells.1 >>= λ rest. Ok (made more.0 cells.0, rest))
+      (cells_reads MAX_TABLE_CELLS [] inside)
+      (λ cells are. read_then (wanted signs.CloseSquare cells.1) (λ rest. Ok (made more.0 cells.0, rest))
+      (wanted_reads signs.CloseSquare cells.1)
+      (λ rest closes. gives (made more.0 cells.0, rest) (took_new text new (λ n is_new.
+      took_front becomes (λ b becoming. took_front opens (λ o opened. took_then are (λ us all.
+      took_front closes (λ c closed. took_end (record {
+        name = n;
+        becomes = b;
+        opening = o;
+        inside = us;
+        closing = c;
+        names = more.0;
+        cells = cells.0;
+        tokens = refl;
+        is_new = is_new;
+        is_becomes = becoming;
+        is_opening = opened;
+        are_cells = all;
+        is_closing = closed;
+        added = refl;
+      }))))))))))))
+
+  states_reads : (before : HeaderForm) (ts : List Token) → Reads (states_read text before ts)
+      (λ x. Took ts x.1 (λ us. (names : List Entry) × s.AreWords text before.names us names
+      × (x.0 ≡ record { names = names; tables = before.tables })))
+  states_reads before ts =
+      read_then (state_names MAX_LINE_TOKENS text before.names ts)
+      (λ more. Ok (record { names = more.0; tables = before.tables }, more.1))
+      (words_read MAX_LINE_TOKENS before.names ts)
+      (λ more is. gives (record { names = more.0; tables = before.tables }, more.1)
+      (took is (λ us words. (more.0, words, refl))))
+
+  -- a line of the column that begins with a word
+  record Heading (a : Sign) (column : ℕ) (ts rest : List Token) : Type 0 where
     pub start : Token
     pub word : Token
     pub split : ts ≡ start ∷ word ∷ rest
     pub is_start : s.IsLineStart column start
-    pub sign : s.IsSign signs.State word
+    pub sign : s.IsSign a word
 
-  state_here : (column : ℕ) (ts rest : List Token) → after_state column ts ≡ Some rest → State column ts rest
-  state_here column [] rest e = absurd (let no : None ≡ Some rest = e in cc)
-  state_here column (t ∷ ts) rest e = by (is_start t.kind && (t.column == column)) refl e
+  heading_here : (a : Sign) (column : ℕ) (ts rest : List Token) → after_heading a column ts ≡ Some rest
+      → Heading a column ts rest
+  heading_here a column [] rest e = absurd (let no : None ≡ Some rest = e in cc)
+  heading_here a column (t ∷ ts) rest e = by (is_start t.kind && (t.column == column)) refl e
     where
       by : (b : Bool) → (is_start t.kind && (t.column == column)) ≡ b
-          → cond b (rest_after signs.State ts) None ≡ Some rest → State column (t ∷ ts) rest
+          → cond b (rest_after a ts) None ≡ Some rest → Heading a column (t ∷ ts) rest
       by true is f =
           let p = and_parts (is_start t.kind) (t.column == column) is in
-          let front = after_front signs.State ts rest f in
+          let front = after_front a ts rest f in
           record {
             start = t;
             word = front.first;
@@ -487,21 +597,32 @@ module _ (text : List ℕ) where
           }
       by false is f = absurd (let no : None ≡ Some rest = f in cc)
 
-  header_reads : (left column : ℕ) (names : List Entry) (ts : List Token) → Reads (header_read left text column names ts)
-      (λ x. Took ts x.1 (λ us. s.IsHeader text column names us x.0))
+  header_reads : (left column : ℕ) (before : HeaderForm) (ts : List Token)
+      → Reads (header_read left text column before ts) (λ x. Took ts x.1 (λ us. s.IsHeader text column before us x.0))
   unfolding header_read
-  header_reads zero column names ts = fails (error_in TooLong ts)
-  header_reads (suc left) column names ts =
-      by_option (after_state column ts)
-      (λ rest. state_names MAX_LINE_TOKENS text names rest >>= λ more. header_read left text column more.0 more.1)
-      (Ok (names, ts))
-      (λ rest e. let h = state_here column ts rest e in
-      read_then (state_names MAX_LINE_TOKENS text names rest) (λ more. header_read left text column more.0 more.1)
-      (words_read MAX_LINE_TOKENS names rest)
-      (λ more words. implied (header_read left text column more.0 more.1) (header_reads left column more.0 more.1)
+  header_reads zero column before ts = fails (error_in TooLong ts)
+  header_reads (suc left) column before ts =
+      let further : HeaderForm → List Token → Result (HeaderForm × List Token) ReadRuleError =
+      header_read left text column in
+      let tables : Result (HeaderForm × List Token) ReadRuleError = elim (after_heading signs.Table column ts) [
+        | Some rest ↦ table_read text before rest >>= λ more. further more.0 more.1
+        | None ↦ Ok (before, ts)
+      ] in
+      by_option (after_heading signs.State column ts)
+      (λ rest. states_read text before rest >>= λ more. further more.0 more.1) tables
+      (λ rest e. let h = heading_here signs.State column ts rest e in
+      read_then (states_read text before rest) (λ more. further more.0 more.1) (states_reads before rest)
+      (λ more words. implied (further more.0 more.1) (header_reads left column more.0 more.1)
       (λ x is. took_of h.split (took_more h.start (took_more h.word (took_then words (λ us a. took is (λ vs b.
-      s.state_line h.is_start h.sign a b))))))))
-      (λ e. gives (names, ts) (took_end s.no_header))
+      s.state_line h.is_start h.sign a.1 (subst (λ (f : HeaderForm). s.IsHeader text column f vs x.0) a.2 b)))))))))
+      (λ none. by_option (after_heading signs.Table column ts)
+      (λ rest. table_read text before rest >>= λ more. further more.0 more.1) (Ok (before, ts))
+      (λ rest e. let h = heading_here signs.Table column ts rest e in
+      read_then (table_read text before rest) (λ more. further more.0 more.1) (table_reads before rest)
+      (λ more table. implied (further more.0 more.1) (header_reads left column more.0 more.1)
+      (λ x is. took_of h.split (took_more h.start (took_more h.word (took_then table (λ us a. took is (λ vs b.
+      s.table_line h.is_start h.sign a b))))))))
+      (λ e. gives (before, ts) (took_end s.no_line)))
 
   end_is : (kind : Kind) → is_end kind ≡ true → kind ≡ TextEnd
   end_is TextEnd e = refl
@@ -509,25 +630,27 @@ module _ (text : List ℕ) where
 
   -- tokens that spell a rule, and those after their end
   record SpelledBy (ts : List Token) (rule : RuleForm) : Type 0 where
-    pub names : List Entry
+    pub named : HeaderForm
     pub header : List Token
     pub lines : List Token
     pub end : Token
     pub after : List Token
     pub tokens : ts ≡ header ++ (lines ++ (end ∷ after))
     pub ends : s.HasKind TextEnd end
-    pub is_header : s.IsHeader text (first_column ts) [] header names
-    pub is_block : s.IsBlock text (first_column ts) names lines rule.statement
-    pub words : rule.words ≡ words_of names
+    pub is_header : s.IsHeader text (first_column ts) no_header header named
+    pub is_block : s.IsBlock (source_with text named) (first_column ts) named.names lines rule.statement
+    pub words : rule.words ≡ words_of named.names
 
-  ended_reads : (ts : List Token) (names : List Entry) (header lines rest : List Token) (a : StatementForm)
-      → s.IsHeader text (first_column ts) [] header names → s.IsBlock text (first_column ts) names lines a
-      → ts ≡ header ++ (lines ++ rest) → Reads (ended names a rest) (SpelledBy ts)
-  ended_reads ts names header lines [] a heads block e = fails (error_in Expected [])
-  ended_reads ts names header lines (t ∷ rest) a heads block e =
-      by_test (is_end t.kind) (Ok (record { statement = a; words = words_of names })) (Err (rule_error_at BadIndent t))
-      (λ end. gives (record { statement = a; words = words_of names }) (record {
-        names = names;
+  ended_reads : (ts : List Token) (named : HeaderForm) (header lines rest : List Token) (a : StatementForm)
+      → s.IsHeader text (first_column ts) no_header header named
+      → s.IsBlock (source_with text named) (first_column ts) named.names lines a
+      → ts ≡ header ++ (lines ++ rest) → Reads (ended named.names a rest) (SpelledBy ts)
+  ended_reads ts named header lines [] a heads block e = fails (error_in Expected [])
+  ended_reads ts named header lines (t ∷ rest) a heads block e =
+      by_test (is_end t.kind) (Ok (record { statement = a; words = words_of named.names }))
+      (Err (rule_error_at BadIndent t))
+      (λ end. gives (record { statement = a; words = words_of named.names }) (record {
+        named = named;
         header = header;
         lines = lines;
         end = t;
@@ -543,12 +666,13 @@ module _ (text : List ℕ) where
   rule_reads : (ts : List Token) → Reads (rule_in text ts) (SpelledBy ts)
   rule_reads ts =
       let column = first_column ts in
-      read_then (header_read MAX_LINES text column [] ts)
-      (λ names. lines_read MAX_STEPS text Rest MAX_PARTS column names.0 names.1 >>= λ a. ended names.0 a.0 a.1)
-      (header_reads MAX_LINES column [] ts)
-      (λ names header. read_then (lines_read MAX_STEPS text Rest MAX_PARTS column names.0 names.1)
-      (λ a. ended names.0 a.0 a.1) ((lines_spelled MAX_STEPS).rest MAX_PARTS column names.0 names.1)
-      (λ a lines. ended_reads ts names.0 header.used lines.used a.1 a.0 header.is lines.is
+      read_then (header_read MAX_LINES text column no_header ts)
+      (λ h. lines_read MAX_STEPS (source_with text h.0) Rest MAX_PARTS column h.0.names h.1
+      >>= λ a. ended h.0.names a.0 a.1) (header_reads MAX_LINES column no_header ts)
+      (λ h header. read_then (lines_read MAX_STEPS (source_with text h.0) Rest MAX_PARTS column h.0.names h.1)
+      (λ a. ended h.0.names a.0 a.1)
+      ((lines_spelled (source_with text h.0) MAX_STEPS).rest MAX_PARTS column h.0.names h.1)
+      (λ a lines. ended_reads ts h.0 header.used lines.used a.1 a.0 header.is lines.is
       (header.split ∙ ap (λ (l : List Token). header.used ++ l) lines.split)))
 
 -- ---- only the last token is the end of the text
@@ -637,7 +761,7 @@ start_no_end state t =
     refl (by_cond IsNoEnd (nat_le MAX_LINES state.lines) (Fault TooLong) LineStart refl refl)
 
 inner_no_end : (state : Lines) (t : Token) → IsNoEnd t.kind → IsNoEnd (inner_kind state t)
-inner_no_end state t h = by_cond IsNoEnd (nat_le MAX_LINE_TOKENS state.tokens) (Fault TooLong) t.kind refl h
+inner_no_end state t h = by_cond IsNoEnd (is_past_limit state t) (Fault TooLong) t.kind refl h
 
 laid_one : (state : Lines) (t : Token) (rest : List Token) → (t.kind ≡ TextEnd → rest ≡ []) → OneEnd rest
     → OneEnd (laid state t ++ rest)
@@ -670,7 +794,7 @@ read_spelled text rule e =
     (subst OneEnd (holds.tokens ∙ sym (append_assoc holds.header holds.lines (holds.end ∷ holds.after))) single) in
     record {
       column = first_column ts;
-      names = holds.names;
+      named = holds.named;
       header = holds.header;
       lines = holds.lines;
       end = holds.end;

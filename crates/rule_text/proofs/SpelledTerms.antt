@@ -16,6 +16,7 @@ use Rattle.rule_text.specs.declared.lexemes.Kind.TheVariants.{Number, Named, Mar
 use Rattle.rule_text.specs.declared.lexemes.Token.{Token}
 use Rattle.rule_text.specs.declared.layout.TheConstants.{MAX_LINE_TOKENS}
 use Rattle.rule_text.specs.declared.scope.Meaning.{Meaning}
+use Rattle.rule_text.specs.declared.scope.Meaning.TheVariants.{Table}
 use Rattle.rule_text.specs.declared.scope.Entry.{Entry}
 use Rattle.rule_text.specs.declared.scope.Maker.{Maker}
 use Rattle.rule_text.specs.declared.scope.Maker.TheVariants as makers
@@ -30,8 +31,9 @@ use Rattle.rule_text.specs.declared.terms.Grade.TheVariants.{Whole, Inverse}
 use Rattle.rule_text.specs.declared.terms.TheConstants.{MAX_PARTS}
 use Rattle.rule_text.specs.Signs.{sign_text, sign_of, is_same}
 use Rattle.rule_text.specs.Forms.{TermForm, number, message, binary, inverse, choice}
+use Rattle.rule_text.specs.Tables.{SourceForm, table_at, table_term}
 use Rattle.rule_text.specs.Scopes.{◌>>=◌, rule_error_at, error_in, letters_of, meaning_of, scope_entry, next_meaning, added, named_entry_by, named_entry, new_name}
-use Rattle.rule_text.specs.Terms.{is_of_sign, rest_after, wanted, joint_of, comparison_of, joint_in, comparison_in, is_least, begins_with_name, after_least, aggregate_in, aggregated, join, named_term, leaf_of, Reader, Inner, leaf, named_atom, bracketed, message_read, marked_atom, atom_by, atom, chain_step, chain_rest, chain_of, compare_rest, compare_read, inverse_read, operand_read, chain_read, choice_read, choice_rest, aggregate_read, plain_read, whole_read, part, term_read}
+use Rattle.rule_text.specs.Terms.{is_of_sign, rest_after, wanted, joint_of, comparison_of, joint_in, comparison_in, is_least, begins_with_name, after_least, aggregate_in, aggregated, join, named_term, leaf_of, Reader, Inner, leaf, named_leaf, leaf_by, leaf_read, lookup_read, named_atom, bracketed, message_read, marked_atom, atom_by, atom, chain_step, chain_rest, chain_of, compare_rest, compare_read, inverse_read, operand_read, chain_read, choice_read, choice_rest, aggregate_read, plain_read, whole_read, part, term_read}
 use Rattle.rule_text.specs.Spelling as s
 
 -- ---- readings
@@ -243,11 +245,50 @@ module _ (text : List ℕ) where
           subst (λ (y : Aggregate × List Token). FrontAggregate y.0 ts y.1) (same_Some (aggregates.Count, rest) x f)
           (record { first = front.first; split = front.split; is = front.sign })
 
+  -- ---- terms of one token
+
+  module _ (names : List Entry) where
+    found_reads : (t : Token) (o : Option TermForm) → ((a : TermForm) → o ≡ Some a → s.IsLeaf text names t a)
+        → Reads (leaf o t) (s.IsLeaf text names t)
+    found_reads t (Some a) is = gives a (is a refl)
+    found_reads t None is = fails (rule_error_at Expected t)
+
+    given_reads : (sign : Sign) (t : Token) → t.kind ≡ Mark sign
+        → Reads (leaf (leaf_of sign) t) (s.IsLeaf text names t)
+    given_reads sign t e = found_reads t (leaf_of sign) (λ a is. s.given {s = sign} (record { is = e }) is)
+
+    named_reads : (name : Name) (t : Token) (o : Option Meaning) → t.kind ≡ Named name → meaning_of text names name ≡ o
+        → Reads (named_leaf o t) (s.IsLeaf text names t)
+    named_reads name t (Some meaning) e f =
+        found_reads t (named_term meaning)
+        (λ a is. s.named {name = name} {meaning = meaning} (record { is = e }) f is)
+    named_reads name t None e f = fails (rule_error_at UnknownName t)
+
+    single_by_reads : (kind : Kind) (t : Token) → t.kind ≡ kind
+        → Reads (leaf_by text names kind t) (s.IsLeaf text names t)
+    single_by_reads (Number v) t e = gives (number v) (s.numeral (record { is = e }))
+    single_by_reads (Named name) t e = named_reads name t (meaning_of text names name) e refl
+    single_by_reads (Mark sign) t e = given_reads sign t e
+    single_by_reads kind t e = fails (rule_error_at Expected t)
+
+    -- the first token is such a term
+    record FrontLeaf (a : TermForm) (ts rest : List Token) : Type 0 where
+      pub first : Token
+      pub split : ts ≡ first ∷ rest
+      pub is : s.IsLeaf text names first a
+
+    leaf_reads : (ts : List Token) → Reads (leaf_read text names ts) (λ x. FrontLeaf x.0 ts x.1)
+    leaf_reads [] = fails (error_in Expected [])
+    leaf_reads (t ∷ ts) =
+        read_then (leaf_by text names t.kind t) (λ a. Ok (a, ts)) (single_by_reads t.kind t refl)
+        (λ a is. gives (a, ts) (record { first = t; split = refl; is = is }))
+
+module _ (source : SourceForm) where
   -- ---- terms
 
   -- at this level
   abbrev pub IsReading : s.Level → List Entry → List Token → TermForm × List Token → Type 0
-  IsReading level names ts x = Took ts x.1 (λ us. s.IsTerm text level names us x.0)
+  IsReading level names ts x = Took ts x.1 (λ us. s.IsTerm source level names us x.0)
 
   abbrev level_of : Grade → s.Level
   level_of Whole = s.whole
@@ -283,33 +324,49 @@ module _ (text : List ℕ) where
         took_then is (λ us term. took_front closes (λ c close.
         took_end (s.received (record { is = e }) opening term close)))))))))
 
-    leaf_reads : (sign : Sign) (t : Token) (ts : List Token) (o : Option TermForm) → t.kind ≡ Mark sign → leaf_of sign ≡ o
-        → Reads (leaf o t >>= λ a. Ok (a, ts)) (IsReading s.atom names (t ∷ ts))
-    leaf_reads sign t ts (Some a) e f = gives (a, ts) (took_more t (took_end (s.given {s = sign} (record { is = e }) f)))
-    leaf_reads sign t ts None e f = fails (rule_error_at Expected t)
+    single_reads : (t : Token) (ts : List Token) (r : Result TermForm ReadRuleError)
+        → Reads r (s.IsLeaf source.text names t) → Reads (r >>= λ a. Ok (a, ts)) (IsReading s.atom names (t ∷ ts))
+    single_reads t ts r is =
+        read_then r (λ a. Ok (a, ts)) is (λ a one. gives (a, ts) (took_more t (took_end (s.leaf one))))
 
     marked_reads : (sign : Sign) (t : Token) (ts : List Token) → t.kind ≡ Mark sign
         → Reads (marked_atom inner names sign t ts) (IsReading s.atom names (t ∷ ts))
     marked_reads signs.Open t ts e = bracket_reads t ts e
     marked_reads signs.Mail t ts e = message_reads t ts e
-    marked_reads sign t ts e = leaf_reads sign t ts (leaf_of sign) e refl
+    marked_reads sign t ts e =
+        single_reads t ts (leaf (leaf_of sign) t) (given_reads source.text names sign t e)
+
+    lookup_reads : (k : ℕ) (name : Name) (t : Token) (ts : List Token) → t.kind ≡ Named name
+        → meaning_of source.text names name ≡ Some (Table k)
+        → Reads (lookup_read source names k ts) (IsReading s.atom names (t ∷ ts))
+    lookup_reads k name t ts e f =
+        let made : TermForm → TermForm = λ x. table_term (table_at source.tables k) x in
+        read_then (wanted signs.OpenSquare ts) (λ inside. leaf_read source.text names inside
+        >>= λ x. wanted signs.CloseSquare x.1 >>= λ rest. Ok (made x.0, rest)) (wanted_reads signs.OpenSquare ts)
+        (λ inside opens. read_then (leaf_read source.text names inside) (λ x. wanted signs.CloseSquare x.1
+        >>= λ rest. Ok (made x.0, rest)) (leaf_reads source.text names inside)
+        (λ x one. read_then (wanted signs.CloseSquare x.1) (λ rest. Ok (made x.0, rest))
+        (wanted_reads signs.CloseSquare x.1)
+        (λ rest closes. gives (made x.0, rest) (took_more t (took_front opens (λ o opening.
+        took_of one.split (took_more one.first (took_front closes (λ c close.
+        took_end (s.looked_up {name = name} {k = k} (record { is = e }) f opening one.is close))))))))))
 
     name_reads : (name : Name) (t : Token) (ts : List Token) (o : Option Meaning) → t.kind ≡ Named name
-        → meaning_of text names name ≡ o
-        → Reads (named_atom o t >>= λ a. Ok (a, ts)) (IsReading s.atom names (t ∷ ts))
-    name_reads name t ts (Some meaning) e f =
-        gives (named_term meaning, ts) (took_more t (took_end (s.named {name = name} {meaning = meaning}
-        (record { is = e }) f)))
-    name_reads name t ts None e f = fails (rule_error_at UnknownName t)
+        → meaning_of source.text names name ≡ o
+        → Reads (named_atom source names o t ts) (IsReading s.atom names (t ∷ ts))
+    name_reads name t ts (Some (Table k)) e f = lookup_reads k name t ts e f
+    name_reads name t ts o e f =
+        single_reads t ts (named_leaf o t) (named_reads source.text names name t o e f)
 
     kind_reads : (kind : Kind) (t : Token) (ts : List Token) → t.kind ≡ kind
-        → Reads (atom_by inner text names kind t ts) (IsReading s.atom names (t ∷ ts))
-    kind_reads (Number v) t ts e = gives (number v, ts) (took_more t (took_end (s.numeral (record { is = e }))))
-    kind_reads (Named name) t ts e = name_reads name t ts (meaning_of text names name) e refl
+        → Reads (atom_by inner source names kind t ts) (IsReading s.atom names (t ∷ ts))
+    kind_reads (Number v) t ts e =
+        gives (number v, ts) (took_more t (took_end (s.leaf (s.numeral (record { is = e })))))
+    kind_reads (Named name) t ts e = name_reads name t ts (meaning_of source.text names name) e refl
     kind_reads (Mark sign) t ts e = marked_reads sign t ts e
     kind_reads kind t ts e = fails (rule_error_at Expected t)
 
-    atom_reads : (ts : List Token) → Reads (atom inner text names ts) (IsReading s.atom names ts)
+    atom_reads : (ts : List Token) → Reads (atom inner source names ts) (IsReading s.atom names ts)
     atom_reads [] = fails (error_in Expected [])
     atom_reads (t ∷ ts) = kind_reads t.kind t ts refl
 
@@ -343,16 +400,16 @@ module _ (text : List ℕ) where
 
     -- after the operands so far
     abbrev Further : Chain → (TermForm → Reader) → Type 0
-    Further kind further = (done ts : List Token) (left : TermForm) → s.IsTerm text (s.chain kind) names done left
-        → Reads (further left ts) (λ x. Took ts x.1 (λ us. s.IsTerm text (s.chain kind) names (done ++ us) x.0))
+    Further kind further = (done ts : List Token) (left : TermForm) → s.IsTerm source (s.chain kind) names done left
+        → Reads (further left ts) (λ x. Took ts x.1 (λ us. s.IsTerm source (s.chain kind) names (done ++ us) x.0))
 
     step_reads : (kind : Chain) (operand : Reader) (further : TermForm → Reader)
         → Operands (s.tighter (s.chain kind)) operand → Further kind further
         → (o : Option (Joint × List Token)) (done ts : List Token) (left : TermForm) → joint_in kind ts ≡ o
-        → s.IsTerm text (s.chain kind) names done left → Reads (chain_step further operand left ts o)
-        (λ x. Took ts x.1 (λ us. s.IsTerm text (s.chain kind) names (done ++ us) x.0))
+        → s.IsTerm source (s.chain kind) names done left → Reads (chain_step further operand left ts o)
+        (λ x. Took ts x.1 (λ us. s.IsTerm source (s.chain kind) names (done ++ us) x.0))
     step_reads kind operand further reads more None done ts left e is =
-        gives (left, ts) (took_end (subst (λ (l : List Token). s.IsTerm text (s.chain kind) names l left)
+        gives (left, ts) (took_end (subst (λ (l : List Token). s.IsTerm source (s.chain kind) names l left)
         (sym (append-nil done)) is))
     step_reads kind operand further reads more (Some x) done ts left e is =
         let o = operator_in kind ts x e in
@@ -360,7 +417,7 @@ module _ (text : List ℕ) where
         (λ right found. implied (further (join x.0 left right.0) right.1)
         (more (done ++ (o.first ∷ found.used)) right.1 (join x.0 left right.0) (s.joined o.first is o.is found.is))
         (λ y t. took_of o.split (took_more o.first (took_past found (took t (λ vs term.
-        subst (λ (l : List Token). s.IsTerm text (s.chain kind) names l y.0)
+        subst (λ (l : List Token). s.IsTerm source (s.chain kind) names l y.0)
         (append_assoc done (o.first ∷ found.used) vs) term))))))
 
     rest_reads : (n : ℕ) (kind : Chain) (operand : Reader) → Operands (s.tighter (s.chain kind)) operand
@@ -402,13 +459,13 @@ module _ (text : List ℕ) where
             }
 
     abbrev side : Reader
-    side = chain_of chains.Sum (chain_of chains.Product (atom inner text names))
+    side = chain_of chains.Sum (chain_of chains.Product (atom inner source names))
 
     side_reads : Operands (s.chain chains.Sum) side
-    side_reads = chain_of_reads chains.Sum (chain_of chains.Product (atom inner text names))
-        (chain_of_reads chains.Product (atom inner text names) atom_reads)
+    side_reads = chain_of_reads chains.Sum (chain_of chains.Product (atom inner source names))
+        (chain_of_reads chains.Product (atom inner source names) atom_reads)
 
-    compare_reads : Operands s.compared (compare_read inner text names)
+    compare_reads : Operands s.compared (compare_read inner source names)
     compare_reads ts =
         read_then (side ts) (λ left. compare_rest side left.0 left.1) (side_reads ts)
         (λ left is. by_option (comparison_in left.1)
@@ -419,31 +476,34 @@ module _ (text : List ℕ) where
         took_of o.split (took_more o.first (took other (λ vs b. s.beside o.first a o.is b)))))))
         (λ e. gives left (alone_reads s.compared names ts left is)))
 
-    inverse_reads : Operands s.inverted (inverse_read inner text names)
+    inverse_reads : Operands s.inverted (inverse_read inner source names)
     inverse_reads ts =
         by_option (rest_after signs.Not ts) (λ rest. inner Inverse names rest >>= λ a. Ok (inverse a.0, a.1))
-        (compare_read inner text names ts)
+        (compare_read inner source names ts)
         (λ rest e. read_then (inner Inverse names rest) (λ a. Ok (inverse a.0, a.1)) (spelled Inverse names rest)
         (λ a is. gives (inverse a.0, a.1)
         (took_front (after_front signs.Not ts rest e) (λ o sign. took is (λ us term. s.not_so sign term)))))
-        (λ e. implied (compare_read inner text names ts) (compare_reads ts) (λ x is. alone_reads s.inverted names ts x is))
+        (λ e. implied (compare_read inner source names ts) (compare_reads ts)
+        (λ x is. alone_reads s.inverted names ts x is))
 
-    operand_reads : (kind : Chain) → Operands (s.tighter (s.chain kind)) (operand_read inner text names kind)
+    operand_reads : (kind : Chain) → Operands (s.tighter (s.chain kind)) (operand_read inner source names kind)
     operand_reads chains.Product = atom_reads
-    operand_reads chains.Sum = chain_of_reads chains.Product (atom inner text names) atom_reads
+    operand_reads chains.Sum = chain_of_reads chains.Product (atom inner source names) atom_reads
     operand_reads chains.Both = inverse_reads
-    operand_reads chains.Either = chain_of_reads chains.Both (inverse_read inner text names) inverse_reads
+    operand_reads chains.Either = chain_of_reads chains.Both (inverse_read inner source names) inverse_reads
 
-    either_reads : Operands (s.chain chains.Either) (chain_read inner text names chains.Either)
-    either_reads = chain_of_reads chains.Either (operand_read inner text names chains.Either) (operand_reads chains.Either)
+    either_reads : Operands (s.chain chains.Either) (chain_read inner source names chains.Either)
+    either_reads = chain_of_reads chains.Either (operand_read inner source names chains.Either)
+        (operand_reads chains.Either)
 
     -- ---- whole terms
 
-    plain_reads : Operands s.whole (plain_read inner text names)
+    plain_reads : Operands s.whole (plain_read inner source names)
     plain_reads ts =
-        read_then (chain_read inner text names chains.Either ts) (λ x. choice_rest inner text names x.0 x.1) (either_reads ts)
-        (λ x is. by_option (rest_after signs.If x.1) (λ rest. choice_read inner text names x.0 rest) (Ok x)
-        (λ rest e. read_then (chain_read inner text names chains.Either rest) (λ t. wanted signs.Else t.1
+        read_then (chain_read inner source names chains.Either ts) (λ x. choice_rest inner source names x.0 x.1)
+        (either_reads ts)
+        (λ x is. by_option (rest_after signs.If x.1) (λ rest. choice_read inner source names x.0 rest) (Ok x)
+        (λ rest e. read_then (chain_read inner source names chains.Either rest) (λ t. wanted signs.Else t.1
         >>= λ other. inner Whole names other >>= λ y. Ok (choice t.0 x.0 y.0, y.1)) (either_reads rest)
         (λ t test. read_then (wanted signs.Else t.1) (λ other. inner Whole names other >>= λ y. Ok (choice t.0 x.0 y.0, y.1))
         (wanted_reads signs.Else t.1)
@@ -454,37 +514,39 @@ module _ (text : List ℕ) where
         (λ e. gives x (alone_reads s.whole names ts x is)))
 
     aggregate_spelled : (aggregate : Aggregate) (more : List Entry) (t n c : Token) (us : List Token) (a : TermForm)
-        → IsAggregate aggregate t → s.IsNew text makers.Loop names n more → s.IsSign signs.Colon c
-        → s.IsTerm text s.whole more us a → s.IsTerm text s.whole names (t ∷ n ∷ c ∷ us) (aggregated aggregate a)
+        → IsAggregate source.text aggregate t → s.IsNew source.text makers.Loop names n more → s.IsSign signs.Colon c
+        → s.IsTerm source s.whole more us a → s.IsTerm source s.whole names (t ∷ n ∷ c ∷ us) (aggregated aggregate a)
     aggregate_spelled aggregates.Count more t n c us a is new colon term = s.counted is new colon term
     aggregate_spelled aggregates.Least more t n c us a is new colon term = s.least_of is new colon term
 
-    aggregate_reads : (kind : Aggregate) (t : Token) (ts : List Token) → IsAggregate kind t
-        → Reads (aggregate_read inner text names kind ts) (IsReading s.whole names (t ∷ ts))
+    aggregate_reads : (kind : Aggregate) (t : Token) (ts : List Token) → IsAggregate source.text kind t
+        → Reads (aggregate_read inner source names kind ts) (IsReading s.whole names (t ∷ ts))
     aggregate_reads kind t ts word =
-        read_then (new_name text makers.Loop names ts) (λ more. wanted signs.Colon more.1
-        >>= λ rest. inner Whole more.0 rest >>= λ a. Ok (aggregated kind a.0, a.1)) (new_reads makers.Loop names ts)
+        read_then (new_name source.text makers.Loop names ts) (λ more. wanted signs.Colon more.1
+        >>= λ rest. inner Whole more.0 rest >>= λ a. Ok (aggregated kind a.0, a.1))
+        (new_reads source.text makers.Loop names ts)
         (λ more new. read_then (wanted signs.Colon more.1) (λ rest. inner Whole more.0 rest
         >>= λ a. Ok (aggregated kind a.0, a.1)) (wanted_reads signs.Colon more.1)
         (λ rest colons. read_then (inner Whole more.0 rest) (λ a. Ok (aggregated kind a.0, a.1))
         (spelled Whole more.0 rest)
-        (λ a is. gives (aggregated kind a.0, a.1) (took_more t (took_new new (λ n is_new.
+        (λ a is. gives (aggregated kind a.0, a.1) (took_more t (took_new source.text new (λ n is_new.
         took_front colons (λ c colon. took is (λ us term.
         aggregate_spelled kind more.0 t n c us a.0 word is_new colon term))))))))
 
-    whole_reads : Operands s.whole (whole_read inner text names)
+    whole_reads : Operands s.whole (whole_read inner source names)
     whole_reads ts =
-        by_option (aggregate_in text ts) (λ x. aggregate_read inner text names x.0 x.1) (plain_read inner text names ts)
-        (λ x e. let f = aggregate_front ts x e in
-        implied (aggregate_read inner text names x.0 x.1) (aggregate_reads x.0 f.first x.1 f.is)
+        by_option (aggregate_in source.text ts) (λ x. aggregate_read inner source names x.0 x.1)
+        (plain_read inner source names ts)
+        (λ x e. let f = aggregate_front source.text ts x e in
+        implied (aggregate_read inner source names x.0 x.1) (aggregate_reads x.0 f.first x.1 f.is)
         (λ y is. took_of f.split is)) (λ e. plain_reads ts)
 
-  part_reads : (room : ℕ) → Spelled (part room text)
+  part_reads : (room : ℕ) → Spelled (part room source)
   unfolding part
   part_reads zero grade names ts = fails (error_in TooDeep ts)
-  part_reads (suc room) Whole names ts = whole_reads (part room text) (part_reads room) names ts
-  part_reads (suc room) Inverse names ts = inverse_reads (part room text) (part_reads room) names ts
+  part_reads (suc room) Whole names ts = whole_reads (part room source) (part_reads room) names ts
+  part_reads (suc room) Inverse names ts = inverse_reads (part room source) (part_reads room) names ts
 
   pub term_reads : (names : List Entry) (ts : List Token)
-      → Reads (term_read text names ts) (IsReading s.whole names ts)
+      → Reads (term_read source names ts) (IsReading s.whole names ts)
   term_reads names ts = part_reads MAX_PARTS Whole names ts

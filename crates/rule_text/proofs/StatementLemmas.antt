@@ -8,7 +8,9 @@ use Rattle.rule_text.specs.declared.scope.Entry.{Entry}
 use Rattle.rule_text.specs.declared.statements.Layer.{Layer}
 use Rattle.rule_text.specs.declared.statements.Layer.TheVariants.{Rest, Branch}
 use Rattle.rule_text.specs.Scopes.{error_in, TellsError}
+use Rattle.rule_text.specs.Tables.{SourceForm, HeaderForm}
 use Rattle.rule_text.specs.Statements.{targets_with, targets_read, state_names_with, state_names, header_with}
+use Rattle.rule_text.specs.Statements.{cells_with, cells_read}
 use Rattle.rule_text.specs.Statements.{header_read, rest_read, branch_read, lines_read}
 
 pub targets_none : (left : ℕ) (text : List ℕ) (names : List Entry) (done : List Target) (ts : List Token)
@@ -38,41 +40,58 @@ states_more (suc left) text names ts some =
     let e : left ≡ suc left - 1 = omega arith in
     ap (λ (k : ℕ). state_names_with (state_names k text) text names ts) e
 
-pub header_none : (left : ℕ) (text : List ℕ) (column : ℕ) (names : List Entry) (ts : List Token) (error : ReadRuleError)
-    → left ≡ 0 → error ≡ error_in TooLong ts → TellsError (header_read left text column names ts) error
-unfolding header_read
-header_none left text column names ts error none is = inr (rw (none, is) refl)
+pub cells_none : (left : ℕ) (done : List ℕ) (ts : List Token) (error : ReadRuleError) → left ≡ 0
+    → error ≡ error_in TooLong ts → TellsError (cells_read left done ts) error
+unfolding cells_read
+cells_none left done ts error none is = inr (rw (none, is) refl)
 
-pub header_more : (left : ℕ) (text : List ℕ) (column : ℕ) (names : List Entry) (ts : List Token) → ¬ (left ≡ 0)
-    → header_read left text column names ts ≡ header_with (header_read (left - 1) text column) text column names ts
-unfolding header_read
-header_more zero text column names ts some = absurd (some refl)
-header_more (suc left) text column names ts some =
+pub cells_more : (left : ℕ) (done : List ℕ) (ts : List Token) → ¬ (left ≡ 0)
+    → cells_read left done ts ≡ cells_with (cells_read (left - 1)) done ts
+unfolding cells_read
+cells_more zero done ts some = absurd (some refl)
+cells_more (suc left) done ts some =
     let e : left ≡ suc left - 1 = omega arith in
-    ap (λ (k : ℕ). header_with (header_read k text column) text column names ts) e
+    ap (λ (k : ℕ). cells_with (cells_read k) done ts) e
 
-pub lines_none : (left : ℕ) (text : List ℕ) (layer : Layer) (room column : ℕ) (names : List Entry) (ts : List Token)
+pub header_none : (left : ℕ) (text : List ℕ) (column : ℕ) (before : HeaderForm) (ts : List Token)
     (error : ReadRuleError) → left ≡ 0 → error ≡ error_in TooLong ts
-    → TellsError (lines_read left text layer room column names ts) error
-unfolding lines_read
-lines_none left text layer room column names ts error none is = inr (rw (none, is) refl)
+    → TellsError (header_read left text column before ts) error
+unfolding header_read
+header_none left text column before ts error none is = inr (rw (none, is) refl)
 
-pub lines_rest : (left : ℕ) (text : List ℕ) (layer : Layer) (room column : ℕ) (names : List Entry) (ts : List Token)
-    → ¬ (left ≡ 0) → layer ≡ Rest → lines_read left text layer room column names ts
-    ≡ rest_read (lines_read (left - 1) text) text room column names ts
-unfolding lines_read
-lines_rest zero text layer room column names ts some is = absurd (some refl)
-lines_rest (suc left) text layer room column names ts some is =
+pub header_more : (left : ℕ) (text : List ℕ) (column : ℕ) (before : HeaderForm) (ts : List Token) → ¬ (left ≡ 0)
+    → header_read left text column before ts ≡ header_with (header_read (left - 1) text column) text column before ts
+unfolding header_read
+header_more zero text column before ts some = absurd (some refl)
+header_more (suc left) text column before ts some =
     let e : left ≡ suc left - 1 = omega arith in
-    ap (λ (l : Layer). lines_read (suc left) text l room column names ts) is
-    ∙ ap (λ (k : ℕ). rest_read (lines_read k text) text room column names ts) e
+    ap (λ (k : ℕ). header_with (header_read k text column) text column before ts) e
 
-pub lines_branch : (left : ℕ) (text : List ℕ) (layer : Layer) (room column : ℕ) (names : List Entry) (ts : List Token)
-    → ¬ (left ≡ 0) → layer ≡ Branch → lines_read left text layer room column names ts
-    ≡ branch_read (lines_read (left - 1) text) text room column names ts
+pub lines_none : (left : ℕ) (source : SourceForm) (layer : Layer) (room column : ℕ) (names : List Entry)
+    (ts : List Token)
+    (error : ReadRuleError) → left ≡ 0 → error ≡ error_in TooLong ts
+    → TellsError (lines_read left source layer room column names ts) error
 unfolding lines_read
-lines_branch zero text layer room column names ts some is = absurd (some refl)
-lines_branch (suc left) text layer room column names ts some is =
+lines_none left source layer room column names ts error none is = inr (rw (none, is) refl)
+
+pub lines_rest : (left : ℕ) (source : SourceForm) (layer : Layer) (room column : ℕ) (names : List Entry)
+    (ts : List Token)
+    → ¬ (left ≡ 0) → layer ≡ Rest → lines_read left source layer room column names ts
+    ≡ rest_read (lines_read (left - 1) source) source room column names ts
+unfolding lines_read
+lines_rest zero source layer room column names ts some is = absurd (some refl)
+lines_rest (suc left) source layer room column names ts some is =
     let e : left ≡ suc left - 1 = omega arith in
-    ap (λ (l : Layer). lines_read (suc left) text l room column names ts) is
-    ∙ ap (λ (k : ℕ). branch_read (lines_read k text) text room column names ts) e
+    ap (λ (l : Layer). lines_read (suc left) source l room column names ts) is
+    ∙ ap (λ (k : ℕ). rest_read (lines_read k source) source room column names ts) e
+
+pub lines_branch : (left : ℕ) (source : SourceForm) (layer : Layer) (room column : ℕ) (names : List Entry)
+    (ts : List Token)
+    → ¬ (left ≡ 0) → layer ≡ Branch → lines_read left source layer room column names ts
+    ≡ branch_read (lines_read (left - 1) source) source room column names ts
+unfolding lines_read
+lines_branch zero source layer room column names ts some is = absurd (some refl)
+lines_branch (suc left) source layer room column names ts some is =
+    let e : left ≡ suc left - 1 = omega arith in
+    ap (λ (l : Layer). lines_read (suc left) source l room column names ts) is
+    ∙ ap (λ (k : ℕ). branch_read (lines_read k source) source room column names ts) e

@@ -10,29 +10,32 @@ use Rattle.rule_text.specs.declared.joints.Chain.{Chain}
 use Rattle.rule_text.specs.declared.terms.Grade.{Grade}
 use Rattle.rule_text.specs.declared.terms.Grade.TheVariants.{Whole, Inverse}
 use Rattle.rule_text.specs.Forms.{TermForm}
+use Rattle.rule_text.specs.Tables.{SourceForm}
 use Rattle.rule_text.specs.Scopes.{Reading, ◌>>=◌, error_in, TellsError}
 use Rattle.rule_text.specs.Terms.{Reader, join, joint_in, chain_step, chain_rest, whole_read, inverse_read, part}
 
-pub part_whole : (room : ℕ) (text : List ℕ) (grade : Grade) (names : List Entry) (ts : List Token) → ¬ (room ≡ 0)
-    → grade ≡ Whole → part room text grade names ts ≡ whole_read (part (room - 1) text) text names ts
+pub part_whole : (room : ℕ) (source : SourceForm) (grade : Grade) (names : List Entry) (ts : List Token) → ¬ (room ≡ 0)
+    → grade ≡ Whole → part room source grade names ts ≡ whole_read (part (room - 1) source) source names ts
 unfolding part
-part_whole zero text grade names ts some is = absurd (some refl)
-part_whole (suc room) text grade names ts some is =
+part_whole zero source grade names ts some is = absurd (some refl)
+part_whole (suc room) source grade names ts some is =
     let e : suc room - 1 ≡ room = omega arith in
     rw (is, e) refl
 
-pub part_inverse : (room : ℕ) (text : List ℕ) (grade : Grade) (names : List Entry) (ts : List Token) → ¬ (room ≡ 0)
-    → grade ≡ Inverse → part room text grade names ts ≡ inverse_read (part (room - 1) text) text names ts
+pub part_inverse : (room : ℕ) (source : SourceForm) (grade : Grade) (names : List Entry) (ts : List Token)
+    → ¬ (room ≡ 0)
+    → grade ≡ Inverse → part room source grade names ts ≡ inverse_read (part (room - 1) source) source names ts
 unfolding part
-part_inverse zero text grade names ts some is = absurd (some refl)
-part_inverse (suc room) text grade names ts some is =
+part_inverse zero source grade names ts some is = absurd (some refl)
+part_inverse (suc room) source grade names ts some is =
     let e : suc room - 1 ≡ room = omega arith in
     rw (is, e) refl
 
-pub part_none : (room : ℕ) (text : List ℕ) (grade : Grade) (names : List Entry) (ts : List Token)
-    (error : ReadRuleError) → room ≡ 0 → error ≡ error_in TooDeep ts → TellsError (part room text grade names ts) error
+pub part_none : (room : ℕ) (source : SourceForm) (grade : Grade) (names : List Entry) (ts : List Token)
+    (error : ReadRuleError) → room ≡ 0 → error ≡ error_in TooDeep ts
+    → TellsError (part room source grade names ts) error
 unfolding part
-part_none room text grade names ts error none is = inr (rw (none, is) refl)
+part_none room source grade names ts error none is = inr (rw (none, is) refl)
 
 -- ---- chains, of which `all` is the whole reading, and i of n operands are read
 

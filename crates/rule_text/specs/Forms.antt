@@ -12,6 +12,8 @@ use Rattle.rule_syntax.specs.declared.syntax.Term.TheVariants.{Count', Least'}
 use Rattle.rule_syntax.specs.declared.syntax.Statement.{Statement}
 use Rattle.rule_syntax.specs.declared.syntax.Statement.TheVariants.{Nothing, Then', Let', Assign, If', For', SendAll}
 use Rattle.rule_syntax.specs.declared.syntax.Statement.TheVariants.{SendTo}
+use Rattle.rule_text.specs.declared.leaves.Leaf.{Leaf}
+use Rattle.rule_text.specs.declared.leaves.Leaf.TheVariants as leaves
 
 pub data TermForm : Type 0 where
   number : ℕ → TermForm
@@ -62,6 +64,18 @@ term_form (Not' p a) = inverse (term_form a)
 term_form (Choice' p t q a r b) = choice (term_form t) (term_form a) (term_form b)
 term_form (Count' p t) = count (term_form t)
 term_form (Least' p t) = least (term_form t)
+
+-- a term of one token
+abbrev pub leaf_form : Leaf → TermForm
+leaf_form (leaves.Number v) = number v
+leaf_form leaves.Nodes = nodes
+leaf_form leaves.Faults = faults
+leaf_form leaves.Modulus = modulus
+leaf_form leaves.Me = me
+leaf_form leaves.Coin = coin
+leaf_form (leaves.LoopNode i) = loop_node i
+leaf_form (leaves.Local k) = local k
+leaf_form (leaves.Word k) = word k
 
 abbrev pub assignment_form : Assignment → AssignmentForm
 assignment_form (One target e) = one target (term_form e)

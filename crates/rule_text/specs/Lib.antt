@@ -1,6 +1,7 @@
 pub mod Signs
 pub mod Tokens
 pub mod Forms
+pub mod Tables
 pub mod Scopes
 pub mod Terms
 pub mod Statements

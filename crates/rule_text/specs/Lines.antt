@@ -26,6 +26,7 @@ abbrev pub begins_statement : Kind → Bool
 begins_statement LineStart = false
 begins_statement TextEnd = false
 begins_statement (Mark signs.State) = false
+begins_statement (Mark signs.Table) = false
 begins_statement (Mark signs.Else) = false
 begins_statement kind = true
 

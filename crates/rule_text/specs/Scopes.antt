@@ -14,7 +14,7 @@ use Rattle.rule_text.specs.declared.lexemes.Kind.TheVariants.{Named, Fault, Line
 use Rattle.rule_text.specs.declared.lexemes.Position.{Position}
 use Rattle.rule_text.specs.declared.lexemes.Token.{Token}
 use Rattle.rule_text.specs.declared.scope.Meaning.{Meaning}
-use Rattle.rule_text.specs.declared.scope.Meaning.TheVariants.{Local, LoopNode, Word}
+use Rattle.rule_text.specs.declared.scope.Meaning.TheVariants.{Local, LoopNode, Word, Table}
 use Rattle.rule_text.specs.declared.scope.Entry.{Entry}
 use Rattle.rule_text.specs.declared.scope.Maker.{Maker}
 use Rattle.rule_text.specs.declared.scope.Maker.TheVariants as makers
@@ -91,15 +91,20 @@ abbrev pub is_word : Meaning → Bool
 is_word (Word k) = true
 is_word meaning = false
 
+abbrev pub means_table : Meaning → Bool
+means_table (Table k) = true
+means_table meaning = false
+
 -- the words of the memory, the clock among them
 abbrev pub words_of : List Entry → ℕ
 words_of names = count_by (λ e. is_word e.meaning) names + 1
 
--- a new name is numbered by the lets, loops or words before it; word 0 is the clock
+-- a new name is numbered by the lets, loops, words or tables before it; word 0 is the clock
 abbrev pub next_meaning : Maker → List Entry → Meaning
 next_meaning makers.Let names = Local (count_by (λ e. means_local e.meaning) names)
 next_meaning makers.Loop names = LoopNode (count_by (λ e. is_loop e.meaning) names)
 next_meaning makers.State names = Word (words_of names)
+next_meaning makers.Table names = Table (count_by (λ e. means_table e.meaning) names)
 
 abbrev pub scope_entry : Name → Meaning → Entry
 scope_entry name meaning = record { name = name; meaning = meaning }

@@ -17,7 +17,7 @@ use Rattle.rule_text.specs.declared.lexemes.Kind.TheVariants.{Number, Named, Mar
 use Rattle.rule_text.specs.declared.lexemes.Token.{Token}
 use Rattle.rule_text.specs.declared.layout.TheConstants.{MAX_LINE_TOKENS}
 use Rattle.rule_text.specs.declared.scope.Meaning.{Meaning}
-use Rattle.rule_text.specs.declared.scope.Meaning.TheVariants.{Local, LoopNode, Word}
+use Rattle.rule_text.specs.declared.scope.Meaning.TheVariants.{Local, LoopNode, Word, Table}
 use Rattle.rule_text.specs.declared.scope.Entry.{Entry}
 use Rattle.rule_text.specs.declared.scope.Maker.TheVariants as makers
 use Rattle.rule_text.specs.declared.aggregates.Aggregate.{Aggregate}
@@ -32,6 +32,8 @@ use Rattle.rule_text.specs.declared.terms.TheConstants.{MAX_PARTS}
 use Rattle.rule_text.specs.Signs.{is_same}
 use Rattle.rule_text.specs.Forms.{TermForm, number, nodes, faults, modulus, me, coin, loop_node, local, word, message}
 use Rattle.rule_text.specs.Forms.{binary, logical, inverse, choice, count, least}
+use Rattle.rule_text.specs.Tables.{SourceForm, table_at, table_term}
+use Rattle.rule_text.specs.Tokens.{is_named}
 use Rattle.rule_text.specs.Scopes.{Reading, ◌>>=◌, rule_error_at, error_in, letters_of, meaning_of, new_name}
 
 -- ---- signs
@@ -106,10 +108,6 @@ abbrev pub is_least : List ℕ → Kind → Bool
 is_least text (Named name) = bytes_eq (letters_of text name) (codes "least")
 is_least text kind = false
 
-abbrev pub is_named : Kind → Bool
-is_named (Named name) = true
-is_named kind = false
-
 abbrev pub begins_with_name : List Token → Bool
 begins_with_name [] = false
 begins_with_name (t ∷ ts) = is_named t.kind
@@ -134,10 +132,12 @@ abbrev pub join : Joint → TermForm → TermForm → TermForm
 join (By operator) a b = binary operator a b
 join (With connective) a b = logical connective a b
 
-abbrev pub named_term : Meaning → TermForm
-named_term (Local k) = local k
-named_term (LoopNode k) = loop_node k
-named_term (Word k) = word k
+-- a table is no term by itself
+abbrev pub named_term : Meaning → Option TermForm
+named_term (Local k) = Some (local k)
+named_term (LoopNode k) = Some (loop_node k)
+named_term (Word k) = Some (word k)
+named_term (Table k) = None
 
 -- the words that are terms by themselves
 abbrev pub leaf_of : Sign → Option TermForm
@@ -162,9 +162,30 @@ abbrev pub leaf : Option TermForm → Token → Result TermForm ReadRuleError
 leaf (Some a) t = Ok a
 leaf None t = Err (rule_error_at Expected t)
 
-abbrev pub named_atom : Option Meaning → Token → Result TermForm ReadRuleError
-named_atom (Some meaning) t = Ok (named_term meaning)
-named_atom None t = Err (rule_error_at UnknownName t)
+abbrev pub named_leaf : Option Meaning → Token → Result TermForm ReadRuleError
+named_leaf (Some meaning) t = leaf (named_term meaning) t
+named_leaf None t = Err (rule_error_at UnknownName t)
+
+-- a term of one token
+abbrev pub leaf_by : List ℕ → List Entry → Kind → Token → Result TermForm ReadRuleError
+leaf_by text names (Number v) t = Ok (number v)
+leaf_by text names (Named name) t = named_leaf (meaning_of text names name) t
+leaf_by text names (Mark s) t = leaf (leaf_of s) t
+leaf_by text names kind t = Err (rule_error_at Expected t)
+
+abbrev pub leaf_read : List ℕ → List Entry → Reader
+leaf_read text names [] = Err (error_in Expected [])
+leaf_read text names (t ∷ ts) = leaf_by text names t.kind t >>= λ a. Ok (a, ts)
+
+-- what follows the name of table k
+abbrev pub lookup_read : SourceForm → List Entry → ℕ → Reader
+lookup_read source names k ts =
+    wanted signs.OpenSquare ts >>= λ inside. leaf_read source.text names inside
+    >>= λ x. wanted signs.CloseSquare x.1 >>= λ rest. Ok (table_term (table_at source.tables k) x.0, rest)
+
+abbrev pub named_atom : SourceForm → List Entry → Option Meaning → Token → List Token → Reading TermForm
+named_atom source names (Some (Table k)) t ts = lookup_read source names k ts
+named_atom source names meaning t ts = named_leaf meaning t >>= λ a. Ok (a, ts)
 
 abbrev pub bracketed : Inner → List Entry → Reader
 bracketed inner names ts =
@@ -180,16 +201,15 @@ marked_atom inner names signs.Open t ts = bracketed inner names ts
 marked_atom inner names signs.Mail t ts = message_read inner names ts
 marked_atom inner names s t ts = leaf (leaf_of s) t >>= λ a. Ok (a, ts)
 
-abbrev pub atom_by : Inner → List ℕ → List Entry → Kind → Token → List Token → Reading TermForm
-atom_by inner text names (Number v) t ts = Ok (number v, ts)
-atom_by inner text names (Named name) t ts =
-    named_atom (meaning_of text names name) t >>= λ a. Ok (a, ts)
-atom_by inner text names (Mark s) t ts = marked_atom inner names s t ts
-atom_by inner text names kind t ts = Err (rule_error_at Expected t)
+abbrev pub atom_by : Inner → SourceForm → List Entry → Kind → Token → List Token → Reading TermForm
+atom_by inner source names (Number v) t ts = Ok (number v, ts)
+atom_by inner source names (Named name) t ts = named_atom source names (meaning_of source.text names name) t ts
+atom_by inner source names (Mark s) t ts = marked_atom inner names s t ts
+atom_by inner source names kind t ts = Err (rule_error_at Expected t)
 
-abbrev pub atom : Inner → List ℕ → List Entry → Reader
-atom inner text names [] = Err (error_in Expected [])
-atom inner text names (t ∷ ts) = atom_by inner text names t.kind t ts
+abbrev pub atom : Inner → SourceForm → List Entry → Reader
+atom inner source names [] = Err (error_in Expected [])
+atom inner source names (t ∷ ts) = atom_by inner source names t.kind t ts
 
 -- after an operand and what follows it: a further operand, if an operator of the chain is next
 abbrev pub chain_step : (TermForm → Reader) → Reader → TermForm → List Token → Option (Joint × List Token)
@@ -214,58 +234,58 @@ compare_rest side left ts = elim (comparison_in ts) [
   | Some x ↦ side x.1 >>= λ right. Ok (binary (Compare x.0) left right.0, right.1)
 ]
 
-abbrev pub compare_read : Inner → List ℕ → List Entry → Reader
-compare_read inner text names ts =
-    let side = chain_of chains.Sum (chain_of chains.Product (atom inner text names)) in
+abbrev pub compare_read : Inner → SourceForm → List Entry → Reader
+compare_read inner source names ts =
+    let side = chain_of chains.Sum (chain_of chains.Product (atom inner source names)) in
     side ts >>= λ left. compare_rest side left.0 left.1
 
-abbrev pub inverse_read : Inner → List ℕ → List Entry → Reader
-inverse_read inner text names ts = elim (rest_after signs.Not ts) [
+abbrev pub inverse_read : Inner → SourceForm → List Entry → Reader
+inverse_read inner source names ts = elim (rest_after signs.Not ts) [
   | Some rest ↦ inner Inverse names rest >>= λ a. Ok (inverse a.0, a.1)
-  | None ↦ compare_read inner text names ts
+  | None ↦ compare_read inner source names ts
 ]
 
 -- the operands of a chain are of the next tighter kind
-abbrev pub operand_read : Inner → List ℕ → List Entry → Chain → Reader
-operand_read inner text names chains.Product ts = atom inner text names ts
-operand_read inner text names chains.Sum ts = chain_of chains.Product (atom inner text names) ts
-operand_read inner text names chains.Both ts = inverse_read inner text names ts
-operand_read inner text names chains.Either ts = chain_of chains.Both (inverse_read inner text names) ts
+abbrev pub operand_read : Inner → SourceForm → List Entry → Chain → Reader
+operand_read inner source names chains.Product ts = atom inner source names ts
+operand_read inner source names chains.Sum ts = chain_of chains.Product (atom inner source names) ts
+operand_read inner source names chains.Both ts = inverse_read inner source names ts
+operand_read inner source names chains.Either ts = chain_of chains.Both (inverse_read inner source names) ts
 
-abbrev pub chain_read : Inner → List ℕ → List Entry → Chain → Reader
-chain_read inner text names chain ts = chain_of chain (operand_read inner text names chain) ts
+abbrev pub chain_read : Inner → SourceForm → List Entry → Chain → Reader
+chain_read inner source names chain ts = chain_of chain (operand_read inner source names chain) ts
 
 -- x if t else y, x read
-abbrev pub choice_read : Inner → List ℕ → List Entry → TermForm → Reader
-choice_read inner text names x ts =
-    chain_read inner text names chains.Either ts >>= λ t. wanted signs.Else t.1
+abbrev pub choice_read : Inner → SourceForm → List Entry → TermForm → Reader
+choice_read inner source names x ts =
+    chain_read inner source names chains.Either ts >>= λ t. wanted signs.Else t.1
     >>= λ rest. inner Whole names rest >>= λ y. Ok (choice t.0 x y.0, y.1)
 
-abbrev pub choice_rest : Inner → List ℕ → List Entry → TermForm → Reader
-choice_rest inner text names x ts =
-    elim (rest_after signs.If ts) [ Some rest ↦ choice_read inner text names x rest | None ↦ Ok (x, ts) ]
+abbrev pub choice_rest : Inner → SourceForm → List Entry → TermForm → Reader
+choice_rest inner source names x ts =
+    elim (rest_after signs.If ts) [ Some rest ↦ choice_read inner source names x rest | None ↦ Ok (x, ts) ]
 
 -- a name, a colon and a term
-abbrev pub aggregate_read : Inner → List ℕ → List Entry → Aggregate → Reader
-aggregate_read inner text names aggregate ts =
-    new_name text makers.Loop names ts >>= λ more. wanted signs.Colon more.1
+abbrev pub aggregate_read : Inner → SourceForm → List Entry → Aggregate → Reader
+aggregate_read inner source names aggregate ts =
+    new_name source.text makers.Loop names ts >>= λ more. wanted signs.Colon more.1
     >>= λ rest. inner Whole more.0 rest >>= λ a. Ok (aggregated aggregate a.0, a.1)
 
-abbrev pub plain_read : Inner → List ℕ → List Entry → Reader
-plain_read inner text names ts =
-    chain_read inner text names chains.Either ts >>= λ x. choice_rest inner text names x.0 x.1
+abbrev pub plain_read : Inner → SourceForm → List Entry → Reader
+plain_read inner source names ts =
+    chain_read inner source names chains.Either ts >>= λ x. choice_rest inner source names x.0 x.1
 
-abbrev pub whole_read : Inner → List ℕ → List Entry → Reader
-whole_read inner text names ts = elim (aggregate_in text ts) [
-  | Some x ↦ aggregate_read inner text names x.0 x.1
-  | None ↦ plain_read inner text names ts
+abbrev pub whole_read : Inner → SourceForm → List Entry → Reader
+whole_read inner source names ts = elim (aggregate_in source.text ts) [
+  | Some x ↦ aggregate_read inner source names x.0 x.1
+  | None ↦ plain_read inner source names ts
 ]
 
 -- a part, with at most this many in one another
-unfoldable pub part : ℕ → List ℕ → Grade → List Entry → Reader
-part zero text grade names ts = Err (error_in TooDeep ts)
-part (suc room) text Whole names ts = whole_read (part room text) text names ts
-part (suc room) text Inverse names ts = inverse_read (part room text) text names ts
+unfoldable pub part : ℕ → SourceForm → Grade → List Entry → Reader
+part zero source grade names ts = Err (error_in TooDeep ts)
+part (suc room) source Whole names ts = whole_read (part room source) source names ts
+part (suc room) source Inverse names ts = inverse_read (part room source) source names ts
 
-abbrev pub term_read : List ℕ → List Entry → Reader
-term_read text names ts = part MAX_PARTS text Whole names ts
+abbrev pub term_read : SourceForm → List Entry → Reader
+term_read source names ts = part MAX_PARTS source Whole names ts

@@ -16,7 +16,7 @@ use Rattle.rule_text.specs.declared.lexemes.Class.{Class}
 use Rattle.rule_text.specs.declared.lexemes.Class.TheVariants.{Digits, Letters, Comment}
 use Rattle.rule_text.specs.declared.lexemes.TheConstants.{MAX_NAME_LETTERS}
 use Rattle.rule_text.specs.declared.layout.Lines.{Lines}
-use Rattle.rule_text.specs.declared.layout.TheConstants.{MAX_LINES, MAX_LINE_TOKENS}
+use Rattle.rule_text.specs.declared.layout.TheConstants.{MAX_LINES, MAX_LINE_TOKENS, MAX_TABLE_CELLS, MAX_LOOKUPS}
 use Rattle.rule_text.specs.Signs.{sign_text, sign_of}
 
 -- ---- bytes
@@ -164,12 +164,33 @@ opened kind n = n
 abbrev pub begins_line : Lines → Token → Bool
 begins_line s t = not (s.line == t.line) && (s.depth == 0)
 
+-- a lookup in a table: the token before is a name, and this one opens its index
+abbrev pub opens_index : Bool → Kind → Bool
+opens_index after_name (Mark signs.OpenSquare) = after_name
+opens_index after_name kind = false
+
+abbrev pub is_lookup : Lines → Token → Bool
+is_lookup s t = opens_index s.after_name t.kind && not (begins_line s t)
+
+abbrev pub is_named : Kind → Bool
+is_named (Named name) = true
+is_named kind = false
+
+abbrev pub begins_table : Kind → Bool
+begins_table (Mark signs.Table) = true
+begins_table kind = false
+
+-- the most tokens of a line: a table has four before its cells, and a comma or a bracket after each of them
+abbrev pub most_tokens : Lines → ℕ
+most_tokens s = if s.in_table then 2 * MAX_TABLE_CELLS + 4 else MAX_LINE_TOKENS
+
 abbrev pub of_kind : Kind → Token → Token
 of_kind kind t =
     record { kind = kind; line = t.line; column = t.column; spaced = t.spaced; last_end = t.last_end }
 
 abbrev pub first_lines : Lines
-first_lines = record { line = 0; depth = 0; tokens = 0; lines = 0 }
+first_lines =
+    record { line = 0; depth = 0; tokens = 0; lines = 0; in_table = false; after_name = false; lookups = 0 }
 
 abbrev pub beyond : Lines → Token → Lines
 beyond s t = record {
@@ -177,6 +198,9 @@ beyond s t = record {
   depth = opened t.kind s.depth;
   tokens = if begins_line s t then 1 else s.tokens + 1;
   lines = if begins_line s t then s.lines + 1 else s.lines;
+  in_table = if begins_line s t then begins_table t.kind else s.in_table;
+  after_name = is_named t.kind;
+  lookups = if is_lookup s t then s.lookups + 1 else s.lookups;
 }
 
 -- what a token that begins a line puts before itself: the start of a line, or a fault
@@ -184,9 +208,13 @@ abbrev pub start_kind : Lines → Token → Kind
 start_kind s t =
     if not t.spaced then Fault BadIndent else if nat_le MAX_LINES s.lines then Fault TooLong else LineStart
 
+-- a token too many in its line, or a lookup too many in the text
+abbrev pub is_past_limit : Lines → Token → Bool
+is_past_limit s t = nat_le (most_tokens s) s.tokens || (is_lookup s t && nat_le MAX_LOOKUPS s.lookups)
+
 -- the kind of a token inside a line
 abbrev pub inner_kind : Lines → Token → Kind
-inner_kind s t = if nat_le MAX_LINE_TOKENS s.tokens then Fault TooLong else t.kind
+inner_kind s t = if is_past_limit s t then Fault TooLong else t.kind
 
 abbrev pub is_end : Kind → Bool
 is_end TextEnd = true

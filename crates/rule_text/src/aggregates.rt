@@ -1,9 +1,10 @@
 //! Aggregates over the nodes: `count` and `least`.
 ghost use Rattle.std.specs.Prelude.{◌≡◌, IfOk, Some, None, MatchOption};
 ghost use Rattle.rule_text.specs.Forms.{term_form, count, least};
-ghost use Rattle.rule_text.specs.Terms.{is_least, is_named, begins_with_name, after_least, aggregate_in, aggregated};
+ghost use Rattle.rule_text.specs.Terms.{is_least, begins_with_name, after_least, aggregate_in, aggregated};
 
 use crate::joints::after;
+use crate::layout::is_named;
 use crate::lexemes::{Kind, Token};
 use crate::scope::letters_of;
 use crate::signs::Sign;
@@ -23,15 +24,6 @@ fn is_least(text: &[u8], kind: Kind) -> bool
 {
     match kind {
         Kind::Named(name) => letters_of(text, name) == "least".as_bytes(),
-        _ => false,
-    }
-}
-
-fn is_named(kind: Kind) -> bool
-    ensures { result ≡ is_named kind }
-{
-    match kind {
-        Kind::Named(_) => true,
         _ => false,
     }
 }

@@ -2,6 +2,7 @@
 ghost use Rattle.std.specs.Prelude.{◌≡◌, Ok, Err, IfOk, IfErr};
 ghost use Rattle.rule_text.specs.Forms.{term_form, assignment_form, statement_form, also};
 ghost use Rattle.rule_text.specs.Scopes.{TellsError};
+ghost use Rattle.rule_text.specs.Tables.{source_form};
 ghost use Rattle.rule_text.specs.Statements.{same_target, target_meant, target_marked, target_by, has_target};
 ghost use Rattle.rule_text.specs.Statements.{with_target};
 ghost use Rattle.rule_text.specs.Statements.{new_target, targets_with, targets_read, values_read, numbers_read};
@@ -13,6 +14,7 @@ use crate::layout::MAX_LINE_TOKENS;
 use crate::lexemes::{Kind, Token};
 use crate::scope::{Entry, Meaning, error_at, error_in, meaning_of};
 use crate::signs::Sign;
+use crate::tables::Source;
 use crate::terms::term;
 use rule_syntax::{Assignment, Statement, Target, Term};
 use std::alloc::{AllocError, Global};
@@ -35,6 +37,7 @@ fn target_meant(meaning: Option<Meaning>, t: Token) -> Result<Target, ReadRuleEr
         Some(Meaning::Local(k)) => Ok(Target::ToLocal(k)),
         Some(Meaning::Word(k)) => Ok(Target::ToWord(k)),
         Some(Meaning::LoopNode(_)) => Err(error_at(RuleError::NotAssignable, t)),
+        Some(Meaning::Table(_)) => Err(error_at(RuleError::NotAssignable, t)),
         None => Err(error_at(RuleError::UnknownName, t)),
     }
 }
@@ -169,56 +172,58 @@ fn also_of(
 /// Reads the numbers of further targets.
 fn values<'a>(
     alloc: Global,
-    text: &[u8],
+    source: &Source,
     names: &[Entry],
     front: Assignment,
     targets: &[Target],
     tokens: &'a [Token],
 ) -> Result<(Assignment, &'a [Token]), ReadRuleError>
-    ensures read { IfOk result (λ x. values_read text.now names.now (assignment_form front) targets.now tokens.now
+    ensures read { IfOk result (λ x. values_read (source_form source.now) names.now (assignment_form front) targets.now
+        tokens.now
         ≡ Ok (assignment_form x.0, x.1.now)) }
     ensures error { IfErr result (TellsError
-        (values_read text.now names.now (assignment_form front) targets.now tokens.now)) }
+        (values_read (source_form source.now) names.now (assignment_form front) targets.now tokens.now)) }
 {
     let Some((target, others)) = targets.split_first() else {
         return Ok((front, tokens));
     };
     let rest = wanted(Sign::Comma, tokens)?;
-    let (number, rest) = term(alloc, text, names, rest)?;
+    let (number, rest) = term(alloc, source, names, rest)?;
     let more = also_of(alloc, front, *target, number)?;
-    values(alloc, text, names, more, others, rest)
+    values(alloc, source, names, more, others, rest)
 }
 
 fn numbers<'a>(
     alloc: Global,
-    text: &[u8],
+    source: &Source,
     names: &[Entry],
     targets: &[Target],
     tokens: &'a [Token],
 ) -> Result<(Statement, &'a [Token]), ReadRuleError>
-    ensures read { IfOk result (λ x. numbers_read text.now names.now targets.now tokens.now
+    ensures read { IfOk result (λ x. numbers_read (source_form source.now) names.now targets.now tokens.now
         ≡ Ok (statement_form x.0, x.1.now)) }
-    ensures error { IfErr result (TellsError (numbers_read text.now names.now targets.now tokens.now)) }
+    ensures error { IfErr result (TellsError (numbers_read (source_form source.now) names.now targets.now tokens.now)) }
 {
     let Some((target, others)) = targets.split_first() else {
         return Err(error_in(RuleError::Expected, tokens));
     };
-    let (number, rest) = term(alloc, text, names, tokens)?;
+    let (number, rest) = term(alloc, source, names, tokens)?;
     let first = Assignment::One(*target, number);
-    let (all, rest) = values(alloc, text, names, first, others, rest)?;
+    let (all, rest) = values(alloc, source, names, first, others, rest)?;
     Ok((Statement::Assign(all), rest))
 }
 
 /// Reads an assignment.
 pub fn assignment<'a>(
     alloc: Global,
-    text: &[u8],
+    source: &Source,
     names: &[Entry],
     tokens: &'a [Token],
 ) -> Result<(Statement, &'a [Token]), ReadRuleError>
-    ensures read { IfOk result (λ x. assign_read text.now names.now tokens.now ≡ Ok (statement_form x.0, x.1.now)) }
-    ensures error { IfErr result (TellsError (assign_read text.now names.now tokens.now)) }
+    ensures read { IfOk result (λ x. assign_read (source_form source.now) names.now tokens.now
+        ≡ Ok (statement_form x.0, x.1.now)) }
+    ensures error { IfErr result (TellsError (assign_read (source_form source.now) names.now tokens.now)) }
 {
-    let (found, rest) = targets(text, names, Vec::new(alloc), tokens, MAX_LINE_TOKENS)?;
-    numbers(alloc, text, names, &found, rest)
+    let (found, rest) = targets(source.text, names, Vec::new(alloc), tokens, MAX_LINE_TOKENS)?;
+    numbers(alloc, source, names, &found, rest)
 }

@@ -23,7 +23,7 @@ pub enum RuleError {
     NotAssignable,
     /// More than 200 parts are in one another, or more than 200 names are in scope.
     TooDeep,
-    /// The line has more than 1,000 tokens, or it is the 513th line with tokens.
+    /// A line has too many tokens, it is the 513th line with tokens, or it has the 65th lookup in a table.
     TooLong,
 }
 

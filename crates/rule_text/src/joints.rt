@@ -1,16 +1,15 @@
 //! Operators and what they join.
-ghost use Rattle.std.specs.Prelude.{◌≡◌, IfOk, Ok, Err, IfErr, Some, None, MatchOption, option_map};
+ghost use Rattle.std.specs.Prelude.{◌≡◌, IfOk, Ok, Err, IfErr, Some, None, MatchOption};
 ghost use Rattle.rule_text.specs.Forms.{term_form, message, inverse, choice};
 ghost use Rattle.rule_text.specs.Forms.{binary as binary_form, logical as logical_form};
 ghost use Rattle.rule_text.specs.Terms.{is_of_sign, rest_after, wanted, joint_in, comparison_in, product_joint, sum_joint};
 ghost use Rattle.rule_text.specs.Terms.{joint_by};
-ghost use Rattle.rule_text.specs.Terms.{joint_of, comparison_by, comparison_of, join, named_term, leaf_of};
+ghost use Rattle.rule_text.specs.Terms.{joint_of, comparison_by, comparison_of, join};
 
 use crate::errors::{ReadRuleError, RuleError};
 use crate::lexemes::{Kind, Token};
-use crate::scope::{Meaning, error_at, error_in};
+use crate::scope::error_in;
 use crate::signs::{Sign, is_same};
-use node_env::NO_MAIL;
 use rule_syntax::{Comparison, Connective, Operation, Operator, Term};
 use std::alloc::{AllocError, Global};
 
@@ -155,33 +154,6 @@ pub fn comparison_in(tokens: &[Token]) -> Option<(Comparison, &[Token])>
     match comparison_of(first.kind) {
         Some(comparison) => Some((comparison, rest)),
         None => None,
-    }
-}
-
-/// Returns the term that a name means.
-pub fn named_term(meaning: Meaning) -> Term
-    ensures { term_form result ≡ named_term meaning }
-{
-    match meaning {
-        Meaning::Local(k) => Term::Local(k),
-        Meaning::LoopNode(k) => Term::LoopNode(k),
-        Meaning::Word(k) => Term::Word(k),
-    }
-}
-
-/// Returns the term that a word is by itself.
-pub fn leaf_of(sign: Sign) -> Option<Term>
-    ensures { option_map term_form result ≡ leaf_of sign }
-{
-    match sign {
-        Sign::Nodes => Some(Term::Nodes),
-        Sign::Faults => Some(Term::Faults),
-        Sign::Modulus => Some(Term::Modulus),
-        Sign::Me => Some(Term::Me),
-        Sign::Coin => Some(Term::Coin),
-        Sign::NoMessage => Some(Term::Number(NO_MAIL)),
-        Sign::Clock => Some(Term::Word(0)),
-        _ => None,
     }
 }
 

@@ -28,13 +28,16 @@ mod errors;
 mod joints;
 mod laws;
 mod layout;
+mod leaves;
 mod lexemes;
 mod lines;
+mod lookups;
 mod parts;
 mod rule;
 mod scope;
 mod signs;
 mod statements;
+mod tables;
 mod terms;
 mod words;
 

@@ -46,6 +46,7 @@ fn begins_statement(kind: Kind) -> bool
         Kind::LineStart => false,
         Kind::TextEnd => false,
         Kind::Mark(Sign::State) => false,
+        Kind::Mark(Sign::Table) => false,
         Kind::Mark(Sign::Else) => false,
         _ => true,
     }

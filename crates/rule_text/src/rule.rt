@@ -1,9 +1,11 @@
 //! From a text to a rule.
-ghost use Rattle.std.specs.Prelude.{◌≡◌, [], MatchOption, Some, None, Ok, Err, IfOk, IfErr};
+ghost use Rattle.std.specs.Prelude.{◌≡◌, MatchOption, Some, None, Ok, Err, IfOk, IfErr};
 ghost use Rattle.rule_text.specs.Forms.{statement_form};
 ghost use Rattle.rule_text.specs.Scopes.{TellsError};
-ghost use Rattle.rule_text.specs.Statements.{state_names_with, state_names, after_state, header_with, header_read};
+ghost use Rattle.rule_text.specs.Statements.{state_names_with, state_names, states_read, after_heading};
+ghost use Rattle.rule_text.specs.Statements.{header_with, header_read};
 ghost use Rattle.rule_text.specs.Statements.{ended, first_column, rule_in, rule_read};
+ghost use Rattle.rule_text.specs.Tables.{header_form};
 ghost use Rattle.rule_text.specs.Rules.{rule_form};
 
 use crate::errors::{ReadRuleError, RuleError};
@@ -13,6 +15,7 @@ use crate::lexemes::{Kind, Token, lexemes};
 use crate::scope::{Entry, Maker, error_at, error_in, new_name, word_count};
 use crate::signs::Sign;
 use crate::statements::{Block, Layer, MAX_STEPS, is_start, lines};
+use crate::tables::{Header, Source, table_line};
 use crate::terms::MAX_PARTS;
 use rule_syntax::Statement;
 use std::alloc::Global;
@@ -63,62 +66,82 @@ fn state_names<'a>(
     state_names_with(alloc, text, names, tokens, left - 1)
 }
 
-/// Returns the tokens after a `state` that begins a line of the column.
-fn state_in(column: usize, tokens: &[Token]) -> Option<&[Token]>
-    ensures { MatchOption result (after_state column tokens.now ≡ None)
-        (λ rest. after_state column tokens.now ≡ Some rest.now) }
+/// Returns the tokens after a word that begins a line of the column.
+fn heading(word: Sign, column: usize, tokens: &[Token]) -> Option<&[Token]>
+    ensures { MatchOption result (after_heading word column tokens.now ≡ None)
+        (λ rest. after_heading word column tokens.now ≡ Some rest.now) }
 {
     let (first, rest) = tokens.split_first()?;
     if is_start(first.kind) && first.column == column {
-        after(Sign::State, rest)
+        after(word, rest)
     } else {
         None
     }
 }
 
-/// Reads the lines that name words of the memory.
+/// Reads what follows `state`.
+fn states<'a>(
+    alloc: Global,
+    text: &[u8],
+    before: Header,
+    tokens: &'a [Token],
+) -> Result<(Header, &'a [Token]), ReadRuleError>
+    ensures read { IfOk result (λ x. states_read text.now (header_form before) tokens.now
+        ≡ Ok (header_form x.0, x.1.now)) }
+    ensures error { IfErr result (TellsError (states_read text.now (header_form before) tokens.now)) }
+{
+    let (names, rest) = state_names(alloc, text, &before.names, tokens, MAX_LINE_TOKENS)?;
+    let tables = before.tables;
+    Ok((Header { names, tables }, rest))
+}
+
+/// Reads the lines that name words of the memory and tables.
 #[cycle(header)]
 fn header_with<'a>(
     alloc: Global,
     text: &[u8],
-    names: Vec<Entry>,
+    before: Header,
     tokens: &'a [Token],
     column: usize,
     left: usize,
-) -> Result<(Vec<Entry>, &'a [Token]), ReadRuleError>
+) -> Result<(Header, &'a [Token]), ReadRuleError>
     ensures read { IfOk result (λ x.
-        header_with (header_read left text.now column) text.now column names.items tokens.now
-        ≡ Ok (x.0.items, x.1.now)) }
+        header_with (header_read left text.now column) text.now column (header_form before) tokens.now
+        ≡ Ok (header_form x.0, x.1.now)) }
     ensures error { IfErr result (TellsError
-        (header_with (header_read left text.now column) text.now column names.items tokens.now)) }
+        (header_with (header_read left text.now column) text.now column (header_form before) tokens.now)) }
 {
-    match state_in(column, tokens) {
+    if let Some(inside) = heading(Sign::State, column, tokens) {
+        let (more, rest) = states(alloc, text, before, inside)?;
+        return header(alloc, text, more, rest, column, left);
+    }
+    match heading(Sign::Table, column, tokens) {
         Some(inside) => {
-            let (more, rest) = state_names(alloc, text, &names, inside, MAX_LINE_TOKENS)?;
+            let (more, rest) = table_line(alloc, text, before, inside)?;
             header(alloc, text, more, rest, column, left)
         }
-        None => Ok((names, tokens)),
+        None => Ok((before, tokens)),
     }
 }
 
-/// Reads the lines that name words of the memory, at most this many.
+/// Reads the lines that name words of the memory and tables, at most this many.
 #[cycle(header)]
 pub fn header<'a>(
     alloc: Global,
     text: &[u8],
-    names: Vec<Entry>,
+    before: Header,
     tokens: &'a [Token],
     column: usize,
     left: usize,
-) -> Result<(Vec<Entry>, &'a [Token]), ReadRuleError>
-    ensures read { IfOk result (λ x. header_read left text.now column names.items tokens.now
-        ≡ Ok (x.0.items, x.1.now)) }
-    ensures error { IfErr result (TellsError (header_read left text.now column names.items tokens.now)) }
+) -> Result<(Header, &'a [Token]), ReadRuleError>
+    ensures read { IfOk result (λ x. header_read left text.now column (header_form before) tokens.now
+        ≡ Ok (header_form x.0, x.1.now)) }
+    ensures error { IfErr result (TellsError (header_read left text.now column (header_form before) tokens.now)) }
 {
     if left == 0 {
         return Err(error_in(RuleError::TooLong, tokens));
     }
-    header_with(alloc, text, names, tokens, column, left - 1)
+    header_with(alloc, text, before, tokens, column, left - 1)
 }
 
 fn ended(names: &[Entry], statement: Statement, tokens: &[Token]) -> Result<Rule, ReadRuleError>
@@ -151,14 +174,18 @@ fn rule_in(alloc: Global, text: &[u8], tokens: &[Token]) -> Result<Rule, ReadRul
     ensures error { IfErr result (TellsError (rule_in text.now tokens.now)) }
 {
     let column = first_column(tokens);
-    let (names, rest) = header(alloc, text, Vec::new(alloc), tokens, column, MAX_LINES)?;
+    let (found, rest) = header(alloc, text, Header::new(alloc), tokens, column, MAX_LINES)?;
     let top = Block {
         left: MAX_STEPS,
         room: MAX_PARTS,
         column,
     };
-    let (statement, rest) = lines(alloc, text, &names, rest, Layer::Rest, top)?;
-    ended(&names, statement, rest)
+    let source = Source {
+        text,
+        tables: &found.tables,
+    };
+    let (statement, rest) = lines(alloc, &source, &found.names, rest, Layer::Rest, top)?;
+    ended(&found.names, statement, rest)
 }
 
 /// Reads the rule of a text.

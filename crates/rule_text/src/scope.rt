@@ -1,6 +1,7 @@
 //! Names and their meanings.
 ghost use Rattle.std.specs.Prelude.{◌≡◌, ◌≤◌, ◌++◌, [], ◌∷◌, length, Ok, IfOk, IfErr};
 ghost use Rattle.rule_text.specs.Scopes.{letters_of, is_same_name, found_entry, meaning_of, means_local, is_loop, is_word};
+ghost use Rattle.rule_text.specs.Scopes.{means_table};
 ghost use Rattle.rule_text.specs.Scopes.{next_meaning, added, words_of};
 ghost use Rattle.rule_text.specs.Scopes.{TellsError, named_entry, new_name, rule_error_at, error_in, told_instead};
 ghost use Rattle.rule_text.specs.Scopes.{error_position};
@@ -12,12 +13,13 @@ use std::alloc::{AllocError, Global};
 /// The most names in scope at once.
 pub const MAX_NAMES: usize = 200;
 
-/// What a name means: a number by `let`, the node of a loop, or a word of the memory.
+/// What a name means: a number by `let`, the node of a loop, a word of the memory, or a table.
 #[derive(Clone, Copy)]
 pub enum Meaning {
     Local(u32),
     LoopNode(u32),
     Word(u32),
+    Table(u32),
 }
 
 /// A name in scope.
@@ -33,6 +35,7 @@ pub enum Maker {
     Let,
     Loop,
     State,
+    Table,
 }
 
 /// Returns the error at a token: its own fault, if it is one, and otherwise the given error.
@@ -137,11 +140,20 @@ fn is_loop(meaning: Meaning) -> bool
     }
 }
 
-fn is_word(meaning: Meaning) -> bool
+pub fn is_word(meaning: Meaning) -> bool
     ensures { result ≡ is_word meaning }
 {
     match meaning {
         Meaning::Word(_) => true,
+        _ => false,
+    }
+}
+
+fn means_table(meaning: Meaning) -> bool
+    ensures { result ≡ means_table meaning }
+{
+    match meaning {
+        Meaning::Table(_) => true,
         _ => false,
     }
 }
@@ -163,6 +175,10 @@ fn next_meaning(maker: Maker, names: &[Entry]) -> Meaning
         Maker::State => {
             let before = names.iter().filter(|e| is_word(e.meaning)).count();
             Meaning::Word(before as u32 + 1)
+        }
+        Maker::Table => {
+            let before = names.iter().filter(|e| means_table(e.meaning)).count();
+            Meaning::Table(before as u32)
         }
     }
 }

@@ -2,6 +2,7 @@
 ghost use Rattle.std.specs.Prelude.{◌≡◌, Ok, IfOk, IfErr};
 ghost use Rattle.rule_text.specs.Forms.{term_form, statement_form};
 ghost use Rattle.rule_text.specs.Scopes.{TellsError};
+ghost use Rattle.rule_text.specs.Tables.{source_form};
 ghost use Rattle.rule_text.specs.Statements.{let_read, send_read, let_alone, simple_read, is_start, deeper_read};
 ghost use Rattle.rule_text.specs.Statements.{body_read};
 ghost use Rattle.rule_text.specs.Statements.{other_read, branch_read, followed, let_line, for_line, line_read};
@@ -15,6 +16,7 @@ use crate::lexemes::{Kind, Token};
 use crate::parts::{branch_of, each_of, let_of, sequence_of};
 use crate::scope::{Entry, Maker, error_at, error_in, new_name};
 use crate::signs::Sign;
+use crate::tables::Source;
 use crate::terms::term;
 use rule_syntax::{Statement, Term};
 use std::alloc::Global;
@@ -40,68 +42,71 @@ pub struct Block {
 /// Reads what follows `let`: its number, and the names with its own.
 fn let_head<'a>(
     alloc: Global,
-    text: &[u8],
+    source: &Source,
     names: &[Entry],
     tokens: &'a [Token],
 ) -> Result<(Term, Vec<Entry>, &'a [Token]), ReadRuleError>
-    ensures read { IfOk result (λ x. let_read text.now names.now tokens.now
+    ensures read { IfOk result (λ x. let_read (source_form source.now) names.now tokens.now
         ≡ Ok (term_form x.0, x.1.items, x.2.now)) }
-    ensures error { IfErr result (TellsError (let_read text.now names.now tokens.now)) }
+    ensures error { IfErr result (TellsError (let_read (source_form source.now) names.now tokens.now)) }
 {
-    let (more, rest) = new_name(alloc, text, Maker::Let, names, tokens)?;
+    let (more, rest) = new_name(alloc, source.text, Maker::Let, names, tokens)?;
     let rest = wanted(Sign::Becomes, rest)?;
-    let (number, rest) = term(alloc, text, names, rest)?;
+    let (number, rest) = term(alloc, source, names, rest)?;
     Ok((number, more, rest))
 }
 
 /// Reads what follows `send`.
 fn send<'a>(
     alloc: Global,
-    text: &[u8],
+    source: &Source,
     names: &[Entry],
     tokens: &'a [Token],
 ) -> Result<(Statement, &'a [Token]), ReadRuleError>
-    ensures read { IfOk result (λ x. send_read text.now names.now tokens.now ≡ Ok (statement_form x.0, x.1.now)) }
-    ensures error { IfErr result (TellsError (send_read text.now names.now tokens.now)) }
+    ensures read { IfOk result (λ x. send_read (source_form source.now) names.now tokens.now
+        ≡ Ok (statement_form x.0, x.1.now)) }
+    ensures error { IfErr result (TellsError (send_read (source_form source.now) names.now tokens.now)) }
 {
-    let (number, rest) = term(alloc, text, names, tokens)?;
+    let (number, rest) = term(alloc, source, names, tokens)?;
     let Some(behind) = after(Sign::To, rest) else {
         return Ok((Statement::SendAll(number), rest));
     };
-    let (receiver, rest) = term(alloc, text, names, behind)?;
+    let (receiver, rest) = term(alloc, source, names, behind)?;
     Ok((Statement::SendTo(number, receiver), rest))
 }
 
 fn let_alone<'a>(
     alloc: Global,
-    text: &[u8],
+    source: &Source,
     names: &[Entry],
     tokens: &'a [Token],
 ) -> Result<(Statement, &'a [Token]), ReadRuleError>
-    ensures read { IfOk result (λ x. let_alone text.now names.now tokens.now ≡ Ok (statement_form x.0, x.1.now)) }
-    ensures error { IfErr result (TellsError (let_alone text.now names.now tokens.now)) }
+    ensures read { IfOk result (λ x. let_alone (source_form source.now) names.now tokens.now
+        ≡ Ok (statement_form x.0, x.1.now)) }
+    ensures error { IfErr result (TellsError (let_alone (source_form source.now) names.now tokens.now)) }
 {
-    let (number, _, rest) = let_head(alloc, text, names, tokens)?;
+    let (number, _, rest) = let_head(alloc, source, names, tokens)?;
     Ok((let_of(alloc, number, Statement::Nothing)?, rest))
 }
 
 /// Reads a statement without blocks.
 fn simple<'a>(
     alloc: Global,
-    text: &[u8],
+    source: &Source,
     names: &[Entry],
     tokens: &'a [Token],
 ) -> Result<(Statement, &'a [Token]), ReadRuleError>
-    ensures read { IfOk result (λ x. simple_read text.now names.now tokens.now ≡ Ok (statement_form x.0, x.1.now)) }
-    ensures error { IfErr result (TellsError (simple_read text.now names.now tokens.now)) }
+    ensures read { IfOk result (λ x. simple_read (source_form source.now) names.now tokens.now
+        ≡ Ok (statement_form x.0, x.1.now)) }
+    ensures error { IfErr result (TellsError (simple_read (source_form source.now) names.now tokens.now)) }
 {
     let Some((first, rest)) = tokens.split_first() else {
         return Err(error_in(RuleError::Expected, tokens));
     };
     match first.kind {
-        Kind::Mark(Sign::Let) => let_alone(alloc, text, names, rest),
-        Kind::Mark(Sign::Send) => send(alloc, text, names, rest),
-        _ => assignment(alloc, text, names, tokens),
+        Kind::Mark(Sign::Let) => let_alone(alloc, source, names, rest),
+        Kind::Mark(Sign::Send) => send(alloc, source, names, rest),
+        _ => assignment(alloc, source, names, tokens),
     }
 }
 
@@ -118,17 +123,17 @@ pub fn is_start(kind: Kind) -> bool
 #[cycle(statements)]
 fn deeper<'a>(
     alloc: Global,
-    text: &[u8],
+    source: &Source,
     names: &[Entry],
     tokens: &'a [Token],
     first: Token,
     at: Block,
 ) -> Result<(Statement, &'a [Token]), ReadRuleError>
     ensures read { IfOk result (λ x.
-        deeper_read (lines_read at.left text.now) at.room at.column names.now first tokens.now
+        deeper_read (lines_read at.left (source_form source.now)) at.room at.column names.now first tokens.now
         ≡ Ok (statement_form x.0, x.1.now)) }
     ensures error { IfErr result (TellsError
-        (deeper_read (lines_read at.left text.now) at.room at.column names.now first tokens.now)) }
+        (deeper_read (lines_read at.left (source_form source.now)) at.room at.column names.now first tokens.now)) }
 {
     if first.column <= at.column {
         return Err(error_at(RuleError::Expected, first));
@@ -141,32 +146,34 @@ fn deeper<'a>(
         room: at.room - 1,
         column: first.column,
     };
-    lines(alloc, text, names, tokens, Layer::Rest, inside)
+    lines(alloc, source, names, tokens, Layer::Rest, inside)
 }
 
 /// Reads a colon and the block after it: deeper lines, or a simple statement on the same line.
 #[cycle(statements)]
 fn body<'a>(
     alloc: Global,
-    text: &[u8],
+    source: &Source,
     names: &[Entry],
     tokens: &'a [Token],
     at: Block,
 ) -> Result<(Statement, &'a [Token]), ReadRuleError>
     ensures read { IfOk result (λ x.
-        body_read (lines_read at.left text.now) text.now at.room at.column names.now tokens.now
+        body_read (lines_read at.left (source_form source.now)) (source_form source.now) at.room at.column names.now
+        tokens.now
         ≡ Ok (statement_form x.0, x.1.now)) }
     ensures error { IfErr result (TellsError
-        (body_read (lines_read at.left text.now) text.now at.room at.column names.now tokens.now)) }
+        (body_read (lines_read at.left (source_form source.now)) (source_form source.now) at.room at.column names.now
+        tokens.now)) }
 {
     let rest = wanted(Sign::Colon, tokens)?;
     let Some((first, _)) = rest.split_first() else {
         return Err(error_in(RuleError::Expected, rest));
     };
     if is_start(first.kind) {
-        deeper(alloc, text, names, rest, *first, at)
+        deeper(alloc, source, names, rest, *first, at)
     } else {
-        simple(alloc, text, names, rest)
+        simple(alloc, source, names, rest)
     }
 }
 
@@ -174,16 +181,18 @@ fn body<'a>(
 #[cycle(statements)]
 fn otherwise<'a>(
     alloc: Global,
-    text: &[u8],
+    source: &Source,
     names: &[Entry],
     tokens: &'a [Token],
     at: Block,
 ) -> Result<(Statement, &'a [Token]), ReadRuleError>
     ensures read { IfOk result (λ x.
-        other_read (lines_read at.left text.now) text.now at.room at.column names.now tokens.now
+        other_read (lines_read at.left (source_form source.now)) (source_form source.now) at.room at.column names.now
+        tokens.now
         ≡ Ok (statement_form x.0, x.1.now)) }
     ensures error { IfErr result (TellsError
-        (other_read (lines_read at.left text.now) text.now at.room at.column names.now tokens.now)) }
+        (other_read (lines_read at.left (source_form source.now)) (source_form source.now) at.room at.column names.now
+        tokens.now)) }
 {
     match tokens {
         [start, word, rest @ ..] => {
@@ -191,8 +200,8 @@ fn otherwise<'a>(
                 return Ok((Statement::Nothing, tokens));
             }
             match word.kind {
-                Kind::Mark(Sign::Elif) => lines(alloc, text, names, rest, Layer::Branch, at),
-                Kind::Mark(Sign::Else) => body(alloc, text, names, rest, at),
+                Kind::Mark(Sign::Elif) => lines(alloc, source, names, rest, Layer::Branch, at),
+                Kind::Mark(Sign::Else) => body(alloc, source, names, rest, at),
                 _ => Ok((Statement::Nothing, tokens)),
             }
         }
@@ -204,20 +213,22 @@ fn otherwise<'a>(
 #[cycle(statements)]
 fn after_if<'a>(
     alloc: Global,
-    text: &[u8],
+    source: &Source,
     names: &[Entry],
     tokens: &'a [Token],
     at: Block,
 ) -> Result<(Statement, &'a [Token]), ReadRuleError>
     ensures read { IfOk result (λ x.
-        branch_read (lines_read at.left text.now) text.now at.room at.column names.now tokens.now
+        branch_read (lines_read at.left (source_form source.now)) (source_form source.now) at.room at.column names.now
+        tokens.now
         ≡ Ok (statement_form x.0, x.1.now)) }
     ensures error { IfErr result (TellsError
-        (branch_read (lines_read at.left text.now) text.now at.room at.column names.now tokens.now)) }
+        (branch_read (lines_read at.left (source_form source.now)) (source_form source.now) at.room at.column names.now
+        tokens.now)) }
 {
-    let (test, rest) = term(alloc, text, names, tokens)?;
-    let (first, rest) = body(alloc, text, names, rest, at)?;
-    let (second, rest) = otherwise(alloc, text, names, rest, at)?;
+    let (test, rest) = term(alloc, source, names, tokens)?;
+    let (first, rest) = body(alloc, source, names, rest, at)?;
+    let (second, rest) = otherwise(alloc, source, names, rest, at)?;
     Ok((branch_of(alloc, test, first, second)?, rest))
 }
 
@@ -225,88 +236,96 @@ fn after_if<'a>(
 #[cycle(statements)]
 fn followed<'a>(
     alloc: Global,
-    text: &[u8],
+    source: &Source,
     names: &[Entry],
     statement: Statement,
     tokens: &'a [Token],
     at: Block,
 ) -> Result<(Statement, &'a [Token]), ReadRuleError>
     ensures read { IfOk result (λ x.
-        followed (lines_read at.left text.now) at.room at.column names.now (statement_form statement) tokens.now
+        followed (lines_read at.left (source_form source.now)) at.room at.column names.now (statement_form statement)
+        tokens.now
         ≡ Ok (statement_form x.0, x.1.now)) }
     ensures error { IfErr result (TellsError
-        (followed (lines_read at.left text.now) at.room at.column names.now (statement_form statement) tokens.now)) }
+        (followed (lines_read at.left (source_form source.now)) at.room at.column names.now (statement_form statement)
+        tokens.now)) }
 {
-    let (behind, rest) = lines(alloc, text, names, tokens, Layer::Rest, at)?;
+    let (behind, rest) = lines(alloc, source, names, tokens, Layer::Rest, at)?;
     Ok((sequence_of(alloc, statement, behind)?, rest))
 }
 
 #[cycle(statements)]
 fn let_line<'a>(
     alloc: Global,
-    text: &[u8],
+    source: &Source,
     names: &[Entry],
     tokens: &'a [Token],
     at: Block,
 ) -> Result<(Statement, &'a [Token]), ReadRuleError>
     ensures read { IfOk result (λ x.
-        let_line (lines_read at.left text.now) text.now at.room at.column names.now tokens.now
+        let_line (lines_read at.left (source_form source.now)) (source_form source.now) at.room at.column names.now
+        tokens.now
         ≡ Ok (statement_form x.0, x.1.now)) }
     ensures error { IfErr result (TellsError
-        (let_line (lines_read at.left text.now) text.now at.room at.column names.now tokens.now)) }
+        (let_line (lines_read at.left (source_form source.now)) (source_form source.now) at.room at.column names.now
+        tokens.now)) }
 {
-    let (number, more, rest) = let_head(alloc, text, names, tokens)?;
-    let (behind, rest) = lines(alloc, text, &more, rest, Layer::Rest, at)?;
+    let (number, more, rest) = let_head(alloc, source, names, tokens)?;
+    let (behind, rest) = lines(alloc, source, &more, rest, Layer::Rest, at)?;
     Ok((let_of(alloc, number, behind)?, rest))
 }
 
 #[cycle(statements)]
 fn for_line<'a>(
     alloc: Global,
-    text: &[u8],
+    source: &Source,
     names: &[Entry],
     tokens: &'a [Token],
     at: Block,
 ) -> Result<(Statement, &'a [Token]), ReadRuleError>
     ensures read { IfOk result (λ x.
-        for_line (lines_read at.left text.now) text.now at.room at.column names.now tokens.now
+        for_line (lines_read at.left (source_form source.now)) (source_form source.now) at.room at.column names.now
+        tokens.now
         ≡ Ok (statement_form x.0, x.1.now)) }
     ensures error { IfErr result (TellsError
-        (for_line (lines_read at.left text.now) text.now at.room at.column names.now tokens.now)) }
+        (for_line (lines_read at.left (source_form source.now)) (source_form source.now) at.room at.column names.now
+        tokens.now)) }
 {
-    let (more, rest) = new_name(alloc, text, Maker::Loop, names, tokens)?;
-    let (inside, rest) = body(alloc, text, &more, rest, at)?;
-    followed(alloc, text, names, each_of(alloc, inside)?, rest, at)
+    let (more, rest) = new_name(alloc, source.text, Maker::Loop, names, tokens)?;
+    let (inside, rest) = body(alloc, source, &more, rest, at)?;
+    followed(alloc, source, names, each_of(alloc, inside)?, rest, at)
 }
 
 /// Reads a line and the rest of its block.
 #[cycle(statements)]
 fn line<'a>(
     alloc: Global,
-    text: &[u8],
+    source: &Source,
     names: &[Entry],
     tokens: &'a [Token],
     at: Block,
 ) -> Result<(Statement, &'a [Token]), ReadRuleError>
     ensures read { IfOk result (λ x.
-        line_read (lines_read at.left text.now) text.now at.room at.column names.now tokens.now
+        line_read (lines_read at.left (source_form source.now)) (source_form source.now) at.room at.column names.now
+        tokens.now
         ≡ Ok (statement_form x.0, x.1.now)) }
     ensures error { IfErr result (TellsError
-        (line_read (lines_read at.left text.now) text.now at.room at.column names.now tokens.now)) }
+        (line_read (lines_read at.left (source_form source.now)) (source_form source.now) at.room at.column names.now
+        tokens.now)) }
 {
     let Some((first, rest)) = tokens.split_first() else {
         return Err(error_in(RuleError::Expected, tokens));
     };
     match first.kind {
-        Kind::Mark(Sign::Let) => let_line(alloc, text, names, rest, at),
-        Kind::Mark(Sign::For) => for_line(alloc, text, names, rest, at),
+        Kind::Mark(Sign::Let) => let_line(alloc, source, names, rest, at),
+        Kind::Mark(Sign::For) => for_line(alloc, source, names, rest, at),
         Kind::Mark(Sign::If) => {
-            let (statement, rest) = lines(alloc, text, names, rest, Layer::Branch, at)?;
-            followed(alloc, text, names, statement, rest, at)
+            let (statement, rest) = lines(alloc, source, names, rest, Layer::Branch, at)?;
+            followed(alloc, source, names, statement, rest, at)
         }
         _ => {
-            let (statement, rest) = simple(alloc, text, names, tokens)?;
-            followed(alloc, text, names, statement, rest, at)
+            let (statement, rest) = simple(alloc, source, names, tokens)?;
+            followed(alloc, source, names, statement, rest, at)
         }
     }
 }
@@ -315,16 +334,18 @@ fn line<'a>(
 #[cycle(statements)]
 fn rest_of<'a>(
     alloc: Global,
-    text: &[u8],
+    source: &Source,
     names: &[Entry],
     tokens: &'a [Token],
     at: Block,
 ) -> Result<(Statement, &'a [Token]), ReadRuleError>
     ensures read { IfOk result (λ x.
-        rest_read (lines_read at.left text.now) text.now at.room at.column names.now tokens.now
+        rest_read (lines_read at.left (source_form source.now)) (source_form source.now) at.room at.column names.now
+        tokens.now
         ≡ Ok (statement_form x.0, x.1.now)) }
     ensures error { IfErr result (TellsError
-        (rest_read (lines_read at.left text.now) text.now at.room at.column names.now tokens.now)) }
+        (rest_read (lines_read at.left (source_form source.now)) (source_form source.now) at.room at.column names.now
+        tokens.now)) }
 {
     let Some((first, rest)) = tokens.split_first() else {
         return Err(error_in(RuleError::Expected, tokens));
@@ -338,7 +359,7 @@ fn rest_of<'a>(
             if at.column < first.column {
                 return Err(error_at(RuleError::BadIndent, *first));
             }
-            line(alloc, text, names, rest, at)
+            line(alloc, source, names, rest, at)
         }
         _ => Err(error_at(RuleError::Expected, *first)),
     }
@@ -348,16 +369,17 @@ fn rest_of<'a>(
 #[cycle(statements)]
 pub fn lines<'a>(
     alloc: Global,
-    text: &[u8],
+    source: &Source,
     names: &[Entry],
     tokens: &'a [Token],
     layer: Layer,
     at: Block,
 ) -> Result<(Statement, &'a [Token]), ReadRuleError>
-    ensures read { IfOk result (λ x. lines_read at.left text.now layer at.room at.column names.now tokens.now
+    ensures read { IfOk result (λ x. lines_read at.left (source_form source.now) layer at.room at.column names.now
+        tokens.now
         ≡ Ok (statement_form x.0, x.1.now)) }
     ensures error { IfErr result (TellsError
-        (lines_read at.left text.now layer at.room at.column names.now tokens.now)) }
+        (lines_read at.left (source_form source.now) layer at.room at.column names.now tokens.now)) }
 {
     let left = at.left;
     if left == 0 {
@@ -369,7 +391,7 @@ pub fn lines<'a>(
         column: at.column,
     };
     match layer {
-        Layer::Rest => rest_of(alloc, text, names, tokens, next),
-        Layer::Branch => after_if(alloc, text, names, tokens, next),
+        Layer::Rest => rest_of(alloc, source, names, tokens, next),
+        Layer::Branch => after_if(alloc, source, names, tokens, next),
     }
 }

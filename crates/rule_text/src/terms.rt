@@ -1,21 +1,25 @@
 //! From tokens to terms.
-ghost use Rattle.std.specs.Prelude.{◌≡◌, Ok, Err, IfOk, IfErr, option_map};
+ghost use Rattle.std.specs.Prelude.{◌≡◌, Ok, IfOk, IfErr};
 ghost use Rattle.rule_text.specs.Scopes.{TellsError};
 ghost use Rattle.rule_text.specs.Forms.{term_form};
-ghost use Rattle.rule_text.specs.Terms.{leaf, named_atom, bracketed, message_read, atom};
+ghost use Rattle.rule_text.specs.Tables.{source_form};
+ghost use Rattle.rule_text.specs.Terms.{bracketed, message_read, atom};
 ghost use Rattle.rule_text.specs.Terms.{compare_read, inverse_read, operand_read, chain_read};
 ghost use Rattle.rule_text.specs.Terms.{choice_read, aggregate_read, whole_read, part, term_read};
 
 use crate::aggregates::{Aggregate, aggregate_in, aggregated};
 use crate::errors::{ReadRuleError, RuleError};
 use crate::joints::{
-    Chain, after, binary_of, choice_of, comparison_in, inverse_of, joined, joint_in, leaf_of,
-    message_of, named_term, wanted,
+    Chain, after, binary_of, choice_of, comparison_in, inverse_of, joined, joint_in, message_of,
+    wanted,
 };
 use crate::layout::MAX_LINE_TOKENS;
+use crate::leaves::{found_leaf, leaf_of, leaf_term, named_leaf};
 use crate::lexemes::{Kind, Token};
+use crate::lookups::lookup;
 use crate::scope::{Entry, Maker, Meaning, error_at, error_in, meaning_of, new_name};
 use crate::signs::Sign;
+use crate::tables::Source;
 use rule_syntax::{Operator, Term};
 use std::alloc::Global;
 
@@ -29,41 +33,20 @@ pub enum Grade {
     Inverse,
 }
 
-/// Returns a word that is a term by itself.
-fn leaf(found: Option<Term>, t: Token) -> Result<Term, ReadRuleError>
-    ensures read { IfOk result (λ x. leaf (option_map term_form found) t ≡ Ok (term_form x)) }
-    ensures error { IfErr result (λ e. leaf (option_map term_form found) t ≡ Err e) }
-{
-    match found {
-        Some(term) => Ok(term),
-        None => Err(error_at(RuleError::Expected, t)),
-    }
-}
-
-fn named_atom(meaning: Option<Meaning>, t: Token) -> Result<Term, ReadRuleError>
-    ensures read { IfOk result (λ x. named_atom meaning t ≡ Ok (term_form x)) }
-    ensures error { IfErr result (λ e. named_atom meaning t ≡ Err e) }
-{
-    match meaning {
-        Some(meaning) => Ok(named_term(meaning)),
-        None => Err(error_at(RuleError::UnknownName, t)),
-    }
-}
-
 /// Reads a term and the bracket after it.
 #[cycle(terms)]
 fn bracketed<'a>(
     alloc: Global,
-    text: &[u8],
+    source: &Source,
     names: &[Entry],
     tokens: &'a [Token],
     room: u32,
 ) -> Result<(Term, &'a [Token]), ReadRuleError>
-    ensures read { IfOk result (λ x. bracketed (part room text.now) names.now tokens.now
+    ensures read { IfOk result (λ x. bracketed (part room (source_form source.now)) names.now tokens.now
         ≡ Ok (term_form x.0, x.1.now)) }
-    ensures error { IfErr result (TellsError (bracketed (part room text.now) names.now tokens.now)) }
+    ensures error { IfErr result (TellsError (bracketed (part room (source_form source.now)) names.now tokens.now)) }
 {
-    let (term, rest) = part(alloc, text, names, tokens, Grade::Whole, room)?;
+    let (term, rest) = part(alloc, source, names, tokens, Grade::Whole, room)?;
     let rest = wanted(Sign::Close, rest)?;
     Ok((term, rest))
 }
@@ -72,17 +55,17 @@ fn bracketed<'a>(
 #[cycle(terms)]
 fn message<'a>(
     alloc: Global,
-    text: &[u8],
+    source: &Source,
     names: &[Entry],
     tokens: &'a [Token],
     room: u32,
 ) -> Result<(Term, &'a [Token]), ReadRuleError>
-    ensures read { IfOk result (λ x. message_read (part room text.now) names.now tokens.now
+    ensures read { IfOk result (λ x. message_read (part room (source_form source.now)) names.now tokens.now
         ≡ Ok (term_form x.0, x.1.now)) }
-    ensures error { IfErr result (TellsError (message_read (part room text.now) names.now tokens.now)) }
+    ensures error { IfErr result (TellsError (message_read (part room (source_form source.now)) names.now tokens.now)) }
 {
     let inside = wanted(Sign::OpenSquare, tokens)?;
-    let (node, rest) = part(alloc, text, names, inside, Grade::Whole, room)?;
+    let (node, rest) = part(alloc, source, names, inside, Grade::Whole, room)?;
     let rest = wanted(Sign::CloseSquare, rest)?;
     Ok((message_of(alloc, node)?, rest))
 }
@@ -90,24 +73,29 @@ fn message<'a>(
 #[cycle(terms)]
 fn atom<'a>(
     alloc: Global,
-    text: &[u8],
+    source: &Source,
     names: &[Entry],
     tokens: &'a [Token],
     room: u32,
 ) -> Result<(Term, &'a [Token]), ReadRuleError>
-    ensures read { IfOk result (λ x. atom (part room text.now) text.now names.now tokens.now
+    ensures read { IfOk result (λ x. atom (part room (source_form source.now)) (source_form source.now) names.now
+        tokens.now
         ≡ Ok (term_form x.0, x.1.now)) }
-    ensures error { IfErr result (TellsError (atom (part room text.now) text.now names.now tokens.now)) }
+    ensures error { IfErr result (TellsError
+        (atom (part room (source_form source.now)) (source_form source.now) names.now tokens.now)) }
 {
     let Some((first, rest)) = tokens.split_first() else {
         return Err(error_in(RuleError::Expected, tokens));
     };
     match first.kind {
         Kind::Number(v) => Ok((Term::Number(v), rest)),
-        Kind::Named(name) => Ok((named_atom(meaning_of(text, names, name), *first)?, rest)),
-        Kind::Mark(Sign::Open) => bracketed(alloc, text, names, rest, room),
-        Kind::Mark(Sign::Mail) => message(alloc, text, names, rest, room),
-        Kind::Mark(sign) => Ok((leaf(leaf_of(sign), *first)?, rest)),
+        Kind::Named(name) => match meaning_of(source.text, names, name) {
+            Some(Meaning::Table(k)) => lookup(alloc, source, names, k, rest),
+            other => Ok((leaf_term(named_leaf(other, *first)?), rest)),
+        },
+        Kind::Mark(Sign::Open) => bracketed(alloc, source, names, rest, room),
+        Kind::Mark(Sign::Mail) => message(alloc, source, names, rest, room),
+        Kind::Mark(sign) => Ok((leaf_term(found_leaf(leaf_of(sign), *first)?), rest)),
         _ => Err(error_at(RuleError::Expected, *first)),
     }
 }
@@ -116,22 +104,23 @@ fn atom<'a>(
 #[cycle(terms)]
 fn operand<'a>(
     alloc: Global,
-    text: &[u8],
+    source: &Source,
     names: &[Entry],
     tokens: &'a [Token],
     chain_kind: Chain,
     room: u32,
 ) -> Result<(Term, &'a [Token]), ReadRuleError>
-    ensures read { IfOk result (λ x. operand_read (part room text.now) text.now names.now chain_kind tokens.now
+    ensures read { IfOk result (λ x. operand_read (part room (source_form source.now)) (source_form source.now)
+        names.now chain_kind tokens.now
         ≡ Ok (term_form x.0, x.1.now)) }
     ensures error { IfErr result (TellsError (operand_read
-        (part room text.now) text.now names.now chain_kind tokens.now)) }
+        (part room (source_form source.now)) (source_form source.now) names.now chain_kind tokens.now)) }
 {
     match chain_kind {
-        Chain::Product => atom(alloc, text, names, tokens, room),
-        Chain::Sum => chain(alloc, text, names, tokens, Chain::Product, room),
-        Chain::Both => inverse(alloc, text, names, tokens, room),
-        Chain::Either => chain(alloc, text, names, tokens, Chain::Both, room),
+        Chain::Product => atom(alloc, source, names, tokens, room),
+        Chain::Sum => chain(alloc, source, names, tokens, Chain::Product, room),
+        Chain::Both => inverse(alloc, source, names, tokens, room),
+        Chain::Either => chain(alloc, source, names, tokens, Chain::Both, room),
     }
 }
 
@@ -139,22 +128,24 @@ fn operand<'a>(
 #[cycle(terms)]
 fn chain<'a>(
     alloc: Global,
-    text: &[u8],
+    source: &Source,
     names: &[Entry],
     tokens: &'a [Token],
     kind: Chain,
     room: u32,
 ) -> Result<(Term, &'a [Token]), ReadRuleError>
-    ensures read { IfOk result (λ x. chain_read (part room text.now) text.now names.now kind tokens.now
+    ensures read { IfOk result (λ x. chain_read (part room (source_form source.now)) (source_form source.now) names.now
+        kind tokens.now
         ≡ Ok (term_form x.0, x.1.now)) }
-    ensures error { IfErr result (TellsError (chain_read (part room text.now) text.now names.now kind tokens.now)) }
+    ensures error { IfErr result (TellsError
+        (chain_read (part room (source_form source.now)) (source_form source.now) names.now kind tokens.now)) }
 {
-    let (mut left, mut rest) = operand(alloc, text, names, tokens, kind, room)?;
+    let (mut left, mut rest) = operand(alloc, source, names, tokens, kind, room)?;
     for _step in 0..MAX_LINE_TOKENS {
         let Some((joint, behind)) = joint_in(kind, rest) else {
             return Ok((left, rest));
         };
-        let (right, behind) = operand(alloc, text, names, behind, kind, room)?;
+        let (right, behind) = operand(alloc, source, names, behind, kind, room)?;
         left = joined(alloc, joint, left, right)?;
         rest = behind;
     }
@@ -165,20 +156,22 @@ fn chain<'a>(
 #[cycle(terms)]
 fn compare<'a>(
     alloc: Global,
-    text: &[u8],
+    source: &Source,
     names: &[Entry],
     tokens: &'a [Token],
     room: u32,
 ) -> Result<(Term, &'a [Token]), ReadRuleError>
-    ensures read { IfOk result (λ x. compare_read (part room text.now) text.now names.now tokens.now
+    ensures read { IfOk result (λ x. compare_read (part room (source_form source.now)) (source_form source.now)
+        names.now tokens.now
         ≡ Ok (term_form x.0, x.1.now)) }
-    ensures error { IfErr result (TellsError (compare_read (part room text.now) text.now names.now tokens.now)) }
+    ensures error { IfErr result (TellsError
+        (compare_read (part room (source_form source.now)) (source_form source.now) names.now tokens.now)) }
 {
-    let (left, rest) = chain(alloc, text, names, tokens, Chain::Sum, room)?;
+    let (left, rest) = chain(alloc, source, names, tokens, Chain::Sum, room)?;
     let Some((comparison, behind)) = comparison_in(rest) else {
         return Ok((left, rest));
     };
-    let (right, rest) = chain(alloc, text, names, behind, Chain::Sum, room)?;
+    let (right, rest) = chain(alloc, source, names, behind, Chain::Sum, room)?;
     Ok((
         binary_of(alloc, Operator::Compare(comparison), left, right)?,
         rest,
@@ -188,19 +181,21 @@ fn compare<'a>(
 #[cycle(terms)]
 fn inverse<'a>(
     alloc: Global,
-    text: &[u8],
+    source: &Source,
     names: &[Entry],
     tokens: &'a [Token],
     room: u32,
 ) -> Result<(Term, &'a [Token]), ReadRuleError>
-    ensures read { IfOk result (λ x. inverse_read (part room text.now) text.now names.now tokens.now
+    ensures read { IfOk result (λ x. inverse_read (part room (source_form source.now)) (source_form source.now)
+        names.now tokens.now
         ≡ Ok (term_form x.0, x.1.now)) }
-    ensures error { IfErr result (TellsError (inverse_read (part room text.now) text.now names.now tokens.now)) }
+    ensures error { IfErr result (TellsError
+        (inverse_read (part room (source_form source.now)) (source_form source.now) names.now tokens.now)) }
 {
     let Some(inside) = after(Sign::Not, tokens) else {
-        return compare(alloc, text, names, tokens, room);
+        return compare(alloc, source, names, tokens, room);
     };
-    let (condition, rest) = part(alloc, text, names, inside, Grade::Inverse, room)?;
+    let (condition, rest) = part(alloc, source, names, inside, Grade::Inverse, room)?;
     Ok((inverse_of(alloc, condition)?, rest))
 }
 
@@ -208,20 +203,22 @@ fn inverse<'a>(
 #[cycle(terms)]
 fn choice<'a>(
     alloc: Global,
-    text: &[u8],
+    source: &Source,
     names: &[Entry],
     first: Term,
     tokens: &'a [Token],
     room: u32,
 ) -> Result<(Term, &'a [Token]), ReadRuleError>
-    ensures read { IfOk result (λ x. choice_read (part room text.now) text.now names.now (term_form first) tokens.now
+    ensures read { IfOk result (λ x. choice_read (part room (source_form source.now)) (source_form source.now)
+        names.now (term_form first) tokens.now
         ≡ Ok (term_form x.0, x.1.now)) }
     ensures error { IfErr result (TellsError
-        (choice_read (part room text.now) text.now names.now (term_form first) tokens.now)) }
+        (choice_read (part room (source_form source.now)) (source_form source.now) names.now (term_form first)
+        tokens.now)) }
 {
-    let (test, rest) = chain(alloc, text, names, tokens, Chain::Either, room)?;
+    let (test, rest) = chain(alloc, source, names, tokens, Chain::Either, room)?;
     let rest = wanted(Sign::Else, rest)?;
-    let (second, rest) = part(alloc, text, names, rest, Grade::Whole, room)?;
+    let (second, rest) = part(alloc, source, names, rest, Grade::Whole, room)?;
     Ok((choice_of(alloc, test, first, second)?, rest))
 }
 
@@ -229,41 +226,44 @@ fn choice<'a>(
 #[cycle(terms)]
 fn aggregate<'a>(
     alloc: Global,
-    text: &[u8],
+    source: &Source,
     names: &[Entry],
     tokens: &'a [Token],
     kind: Aggregate,
     room: u32,
 ) -> Result<(Term, &'a [Token]), ReadRuleError>
-    ensures read { IfOk result (λ x. aggregate_read (part room text.now) text.now names.now kind tokens.now
+    ensures read { IfOk result (λ x. aggregate_read (part room (source_form source.now)) (source_form source.now)
+        names.now kind tokens.now
         ≡ Ok (term_form x.0, x.1.now)) }
     ensures error { IfErr result (TellsError
-        (aggregate_read (part room text.now) text.now names.now kind tokens.now)) }
+        (aggregate_read (part room (source_form source.now)) (source_form source.now) names.now kind tokens.now)) }
 {
-    let (more, rest) = new_name(alloc, text, Maker::Loop, names, tokens)?;
+    let (more, rest) = new_name(alloc, source.text, Maker::Loop, names, tokens)?;
     let rest = wanted(Sign::Colon, rest)?;
-    let (condition, rest) = part(alloc, text, &more, rest, Grade::Whole, room)?;
+    let (condition, rest) = part(alloc, source, &more, rest, Grade::Whole, room)?;
     Ok((aggregated(alloc, kind, condition)?, rest))
 }
 
 #[cycle(terms)]
 fn whole<'a>(
     alloc: Global,
-    text: &[u8],
+    source: &Source,
     names: &[Entry],
     tokens: &'a [Token],
     room: u32,
 ) -> Result<(Term, &'a [Token]), ReadRuleError>
-    ensures read { IfOk result (λ x. whole_read (part room text.now) text.now names.now tokens.now
+    ensures read { IfOk result (λ x. whole_read (part room (source_form source.now)) (source_form source.now) names.now
+        tokens.now
         ≡ Ok (term_form x.0, x.1.now)) }
-    ensures error { IfErr result (TellsError (whole_read (part room text.now) text.now names.now tokens.now)) }
+    ensures error { IfErr result (TellsError
+        (whole_read (part room (source_form source.now)) (source_form source.now) names.now tokens.now)) }
 {
-    if let Some((kind, inside)) = aggregate_in(text, tokens) {
-        return aggregate(alloc, text, names, inside, kind, room);
+    if let Some((kind, inside)) = aggregate_in(source.text, tokens) {
+        return aggregate(alloc, source, names, inside, kind, room);
     }
-    let (first, rest) = chain(alloc, text, names, tokens, Chain::Either, room)?;
+    let (first, rest) = chain(alloc, source, names, tokens, Chain::Either, room)?;
     match after(Sign::If, rest) {
-        Some(behind) => choice(alloc, text, names, first, behind, room),
+        Some(behind) => choice(alloc, source, names, first, behind, room),
         None => Ok((first, rest)),
     }
 }
@@ -272,33 +272,35 @@ fn whole<'a>(
 #[cycle(terms)]
 fn part<'a>(
     alloc: Global,
-    text: &[u8],
+    source: &Source,
     names: &[Entry],
     tokens: &'a [Token],
     grade: Grade,
     room: u32,
 ) -> Result<(Term, &'a [Token]), ReadRuleError>
-    ensures read { IfOk result (λ x. part room text.now grade names.now tokens.now ≡ Ok (term_form x.0, x.1.now)) }
-    ensures error { IfErr result (TellsError (part room text.now grade names.now tokens.now)) }
+    ensures read { IfOk result (λ x. part room (source_form source.now) grade names.now tokens.now
+        ≡ Ok (term_form x.0, x.1.now)) }
+    ensures error { IfErr result (TellsError (part room (source_form source.now) grade names.now tokens.now)) }
 {
     if room == 0 {
         return Err(error_in(RuleError::TooDeep, tokens));
     }
     match grade {
-        Grade::Whole => whole(alloc, text, names, tokens, room - 1),
-        Grade::Inverse => inverse(alloc, text, names, tokens, room - 1),
+        Grade::Whole => whole(alloc, source, names, tokens, room - 1),
+        Grade::Inverse => inverse(alloc, source, names, tokens, room - 1),
     }
 }
 
 /// Reads a term.
 pub fn term<'a>(
     alloc: Global,
-    text: &[u8],
+    source: &Source,
     names: &[Entry],
     tokens: &'a [Token],
 ) -> Result<(Term, &'a [Token]), ReadRuleError>
-    ensures read { IfOk result (λ x. term_read text.now names.now tokens.now ≡ Ok (term_form x.0, x.1.now)) }
-    ensures error { IfErr result (TellsError (term_read text.now names.now tokens.now)) }
+    ensures read { IfOk result (λ x. term_read (source_form source.now) names.now tokens.now
+        ≡ Ok (term_form x.0, x.1.now)) }
+    ensures error { IfErr result (TellsError (term_read (source_form source.now) names.now tokens.now)) }
 {
-    part(alloc, text, names, tokens, Grade::Whole, MAX_PARTS)
+    part(alloc, source, names, tokens, Grade::Whole, MAX_PARTS)
 }

@@ -7,7 +7,8 @@ use crate::errors::ReadRuleError;
 use crate::layout::{MAX_LINES, laid_out};
 use crate::lexemes::{Class, is_in, lexemes};
 use crate::rule::{first_column, header};
-use crate::scope::Entry;
+use crate::scope::{Entry, is_word};
+use crate::tables::Header;
 use std::alloc::{AllocError, Global};
 
 /// The name of the first word of a memory.
@@ -28,7 +29,8 @@ fn front_word(alloc: Global, text: &[u8]) -> Result<String, AllocError>
     Ok(word)
 }
 
-/// Appends the words of the text at which the names begin.
+#[tactic(auto, using(crate::proofs::WordLemmas::name_kept, crate::proofs::WordLemmas::name_passed))]
+/// Appends the words of the text at which the names of words of the memory begin.
 fn push_names(
     alloc: Global,
     text: &[u8],
@@ -39,13 +41,15 @@ fn push_names(
         ≡ map string_bytes words.old.items ++ names_at text.now names.now) }
 {
     for entry in names {
-        let rest = &text[entry.name.from.min(text.len())..];
-        words.push(front_word(alloc, rest)?)?;
+        if is_word(entry.meaning) {
+            let rest = &text[entry.name.from.min(text.len())..];
+            words.push(front_word(alloc, rest)?)?;
+        }
     }
     Ok(())
 }
 
-/// Returns the clock, and the words of the text at which the names begin.
+/// Returns the clock, and the names of the other words of the memory.
 fn with_clock(alloc: Global, text: &[u8], names: &[Entry]) -> Result<Vec<String>, AllocError>
     ensures { IfOk result (λ words. map string_bytes words.items ≡ codes "clock" ∷ names_at text.now names.now) }
 {
@@ -64,6 +68,6 @@ pub fn word_names(alloc: Global, text: &[u8]) -> Result<Vec<String>, ReadRuleErr
     let found = lexemes(alloc, text)?;
     let tokens = laid_out(alloc, &found)?;
     let column = first_column(&tokens);
-    let (names, _rest) = header(alloc, text, Vec::new(alloc), &tokens, column, MAX_LINES)?;
-    Ok(with_clock(alloc, text, &names)?)
+    let (found, _rest) = header(alloc, text, Header::new(alloc), &tokens, column, MAX_LINES)?;
+    Ok(with_clock(alloc, text, &found.names)?)
 }

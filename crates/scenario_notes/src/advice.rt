@@ -2,6 +2,7 @@
 
 use crate::asm_advice::of_text;
 use crate::known::{has_version, key_beside, unknown_key};
+use crate::limits::past_limit;
 use crate::program_words::why;
 use crate::table::{table_at, text_at};
 use crate::wanted::{COINS_NAMES, program_names, wanted};
@@ -13,6 +14,7 @@ use rule_notes::advice_at;
 use rule_notes::near::nearest;
 use rule_notes::shown::shown;
 use rule_programs::RuleRefusal;
+use rule_syntax::Sizes;
 use scenario_text::keys::Key;
 use scenario_text::{
     CLOCK_VERSION, MAX_TEXT, NOISE_VERSION, Place, RULE_VERSION, ScenarioError, ZERO_VERSION,
@@ -203,12 +205,41 @@ fn of_rule(
             let advice = advice.as_str();
             format!(in alloc; "column {column}: {advice}")
         }
-        RuleRefusal::NoRoom => String::from_str(alloc, NO_ROOM_WORDS),
+        RuleRefusal::NoRoom => {
+            let place = of_limit(alloc, table, place, key)?;
+            let place = place.as_str();
+            format!(in alloc; "{NO_ROOM_WORDS}{place}")
+        }
         RuleRefusal::TooLong => {
+            let place = of_limit(alloc, table, place, key)?;
+            let place = place.as_str();
             format!(in alloc;
-                "a program has at most {MAX_SLOTS} slots, and for and count are written out for each node"
+                "a program has at most {MAX_SLOTS} slots, and for and count are written out for each node{place}"
             )
         }
+    }
+}
+
+/// Returns the sizes of the scenario's nodes.
+fn sizes_in(table: &Table) -> Option<Sizes> {
+    Some(Sizes {
+        nodes: number_in(table, "nodes")?,
+        faults: number_in(table, "faults")?,
+        modulus: number_in(table, "modulus")?,
+        memory: number_in(table, "memory")?,
+    })
+}
+
+/// Returns which line of the rule is the first past a limit: nothing if that isn't known.
+fn of_limit(alloc: Global, table: &Table, place: Place, key: &str) -> Result<String, AllocError> {
+    let (Some(text), Some(sizes)) = (text_at(table, place, key), sizes_in(table)) else {
+        return Ok(String::new(alloc));
+    };
+    match past_limit(alloc, text.as_bytes(), sizes)? {
+        Some((line, column)) => format!(in alloc;
+            "; line {line}, column {column} of the rule is past that"
+        ),
+        None => Ok(String::new(alloc)),
     }
 }
 

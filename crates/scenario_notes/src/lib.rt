@@ -3,6 +3,7 @@
 //! - `note_on` returns the note on a rejected scenario.
 //! - `note_on_text` returns the note on a rejected text of the assembler.
 //! - `note_on_program` returns the note on a program that breaks a rule.
+//! - `past_limit` returns where a rule goes past a limit of the compiler.
 //!
 //! ```
 //! use scenario_notes::note_on;
@@ -21,6 +22,7 @@ mod asm_advice;
 mod asm_words;
 mod finding;
 mod known;
+mod limits;
 mod marked;
 mod noting;
 mod program_words;
@@ -33,6 +35,7 @@ mod toml_fault;
 mod wanted;
 
 pub use asm_advice::note_on_text;
+pub use limits::past_limit;
 pub use noting::note_on;
 pub use program_words::note_on_program;
 pub use remark::{Remark, Spot, UnknownKey};

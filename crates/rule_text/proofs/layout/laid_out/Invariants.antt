@@ -8,4 +8,5 @@ invariant-loop-t l = record {
   depth : l.s.depth ≤ l.t-index;
   tokens : l.s.tokens ≤ l.t-index;
   lines : l.s.lines ≤ l.t-index;
+  lookups : l.s.lookups ≤ l.t-index;
 }

@@ -5,6 +5,7 @@ use Rattle.rule_text.specs.declared.layout.TheConstants.{MAX_LINE_TOKENS}
 use Rattle.rule_text.specs.declared.lexemes.Token.{Token}
 use Rattle.rule_text.specs.Forms.{TermForm, term_form}
 use Rattle.rule_text.specs.Scopes.{TellsError}
+use Rattle.rule_text.specs.Tables.{source_form}
 use Rattle.rule_text.specs.Terms.{joint_in}
 use Rattle.rule_text.proofs.TermLemmas.{part_whole, part_inverse, part_none, chain_stops, chain_goes, chain_fails}
 use Rattle.rule_text.proofs.TermLemmas.{chain_out}
@@ -42,24 +43,26 @@ pub part-returns-in-Whole-clause-read : goal.part-returns-in-Whole-clause-read
 part-returns-in-Whole-clause-read t c =
     let P : Result (TermForm × List Token) ReadRuleError → Type 0 = λ r. IfOk c.whole.result
     (λ x. r ≡ Ok (term_form x.0, x.1.now)) in
-    subst P (sym (part_whole c.args.room c.args.text.now c.args.grade c.args.names.now c.args.tokens.now
+    subst P (sym (part_whole c.args.room (source_form c.args.source.now) c.args.grade c.args.names.now c.args.tokens.now
     c.if-room-eq0.false c.in-Whole.is)) c.whole.ensures.read
 
 pub part-returns-in-Whole-clause-error : goal.part-returns-in-Whole-clause-error
 part-returns-in-Whole-clause-error t c =
     let P : Result (TermForm × List Token) ReadRuleError → Type 0 = λ r. IfErr c.whole.result (TellsError r) in
-    subst P (sym (part_whole c.args.room c.args.text.now c.args.grade c.args.names.now c.args.tokens.now
+    subst P (sym (part_whole c.args.room (source_form c.args.source.now) c.args.grade c.args.names.now c.args.tokens.now
     c.if-room-eq0.false c.in-Whole.is)) c.whole.ensures.error
 
 pub part-returns-in-Inverse-clause-read : goal.part-returns-in-Inverse-clause-read
 part-returns-in-Inverse-clause-read t c =
     let P : Result (TermForm × List Token) ReadRuleError → Type 0 = λ r. IfOk c.inverse.result
     (λ x. r ≡ Ok (term_form x.0, x.1.now)) in
-    subst P (sym (part_inverse c.args.room c.args.text.now c.args.grade c.args.names.now c.args.tokens.now
+    subst P (sym (part_inverse c.args.room (source_form c.args.source.now) c.args.grade c.args.names.now
+    c.args.tokens.now
     c.if-room-eq0.false c.in-Inverse.is)) c.inverse.ensures.read
 
 pub part-returns-in-Inverse-clause-error : goal.part-returns-in-Inverse-clause-error
 part-returns-in-Inverse-clause-error t c =
     let P : Result (TermForm × List Token) ReadRuleError → Type 0 = λ r. IfErr c.inverse.result (TellsError r) in
-    subst P (sym (part_inverse c.args.room c.args.text.now c.args.grade c.args.names.now c.args.tokens.now
+    subst P (sym (part_inverse c.args.room (source_form c.args.source.now) c.args.grade c.args.names.now
+    c.args.tokens.now
     c.if-room-eq0.false c.in-Inverse.is)) c.inverse.ensures.error

@@ -1,6 +1,7 @@
 use Rattle.std.proofs.Common.{◌≡◌, ◌+◌, ◌-◌, ◌*◌}
 use Rattle.rule_text.specs.declared.layout.TheConstants.{MAX_LINE_TOKENS}
 use Rattle.rule_text.specs.Forms.{term_form}
+use Rattle.rule_text.specs.Tables.{source_form}
 use Rattle.rule_text.specs.Terms.{chain_rest, operand_read, chain_read, part}
 use Rattle.rule_text.proofs.Ranks.{rank}
 use Rattle.rule_text.proofs.terms.+terms.Given as goal
@@ -41,6 +42,7 @@ decreases-whole l = 20 * l.room + 14
 -- the operands so far, and what is left to read
 abbrev pub invariant-chain-loop-step : goal.invariant-chain-loop-step
 invariant-chain-loop-step l =
-    chain_read (part l.room l.text) l.text l.names l.kind l.fn.tokens
-    ≡ chain_rest (MAX_LINE_TOKENS - l._step) l.kind (operand_read (part l.room l.text) l.text l.names l.kind)
+    chain_read (part l.room (source_form l.source)) (source_form l.source) l.names l.kind l.fn.tokens
+    ≡ chain_rest (MAX_LINE_TOKENS - l._step) l.kind
+    (operand_read (part l.room (source_form l.source)) (source_form l.source) l.names l.kind)
     (term_form l.left) l.rest
