@@ -1,6 +1,6 @@
 """Draws clocks for small benches, each as a rule and as a step written apart from it; tools/check_explore.py uses it.
 
-A drawn node has a phase. In each pulse it takes a number, by default the first node's clock, and asks one question, its
+A drawn node has a phase. In each pulse it takes a number, such as the first node's clock, and asks one question, its
 *event*. A table gives by phase and event the next phase, and by how much the clock advances. Half of the benches have a
 Byzantine node which the event is about: whether it guessed the node's coin, or used up a power. Other events don't tell
 the four answers on stabilisation apart as often.
