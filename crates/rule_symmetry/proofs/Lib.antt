@@ -1,0 +1,7 @@
+pub mod Counts
+mod Least
+pub mod Terms
+pub mod Rules
+pub mod Sorting
+pub mod Reordered
+pub mod Places
