@@ -43,7 +43,7 @@ use Rattle.rule_nodes.specs.declared.numbers.Source.{Source}
 use Rattle.rule_nodes.specs.declared.numbers.Source.TheVariants.{Constant, FromLocal, FromWord, Computed}
 use Rattle.rule_syntax.specs.declared.syntax.Term.{Term}
 use Rattle.rule_syntax.specs.declared.syntax.Term.TheVariants.{Number, Nodes, Faults, Modulus, Me, Coin, LoopNode, Local, Word, Message', Binary', Logical', Not', Choice', Count', Least', Sorted'}
-use Rattle.rule_nodes.specs.Meaning.{NodeState, value, word_at, apply, compare, bit_of, truth, apply_operator, combine, message_from, numbers_below, in_order, at_place}
+use Rattle.rule_nodes.specs.Meaning.{NodeState, value, word_at, apply, compare, bit_of, truth, apply_operator, combine, message_from, numbers_of_nodes, in_order, number_at_place}
 use Rattle.rule_nodes.specs.Operands.{is_constant, is_fetched, is_operand, constant_number, depth_behind, fetched_source, term_source}
 use Rattle.rule_nodes.specs.Fits.{HasPlace, Fits}
 use Rattle.rule_nodes.specs.Code.{number_place, fetch_code, keep_code, increment_code, place_operand, load_place, set_number, copy, alu_op_of, cond_of, jump_on, jump_by, jump_at, beyond_purpose, truth_code, by_value, by_test, two_code, get_code, operand_code, load_code, jump_register, by_operator, left_code, right_code, beside_code, binary_code, choice_code, if_code, decides, both_far, both_code, message_code, message_by, mirror, set_node, lower_code, tally_start, tally_step, tally_codes, tallied_code, tally_code, tally_test, items_code, exchange_code, exchange_codes, pass_code, pass_codes, nearer_end, passes_before, sorted_code, term_code}
@@ -1675,7 +1675,7 @@ module _ (program : List Insn) (env : Setting) (last : ℕ) (solid : (k : ℕ) �
       → IsFramed s → Stands program s.frame.slot (items_code d item m)
       → s.frame.slot + length (items_code d item m) ≤ last → ItemRuns d n item number s
       → Gets s (s.frame.slot + length (items_code d item m)) (length (items_code d item m))
-      (InRow d d (numbers_below m number) s)
+      (InRow d d (numbers_of_nodes m number) s)
   items_run d n item number s zero within few framed stands le each = record {
     new = s;
     run = stays program env s;
@@ -1699,7 +1699,7 @@ module _ (program : List Insn) (env : Setting) (last : ℕ) (solid : (k : ℕ) �
       let p = keep_runs (d + m) (number m) t u (length (item m)) (omega (arith, within, few)) g.run g.fact
       (c.fact.same.framed framed) at_keep.0 (omega (arith, len, le, c.slot, g.slot)) in
       let w = p.new in
-      let vs = numbers_below m number in
+      let vs = numbers_of_nodes m number in
       let long : length vs ≡ m = numbers_long m number in
       let e : d + m ≡ d + length vs = omega (arith, long) in
       record {
@@ -1723,9 +1723,9 @@ module _ (program : List Insn) (env : Setting) (last : ℕ) (solid : (k : ℕ) �
       → ItemRuns d n item number s
       → Gets s (s.frame.slot + length (items_code d item n ++ pass_codes (nearer_end k n) d n (suc (passes_before k n))))
       (length (items_code d item n ++ pass_codes (nearer_end k n) d n (suc (passes_before k n))))
-      (Has d s (at_place k (in_order (numbers_below n number))))
+      (Has d s (number_at_place k (in_order (numbers_of_nodes n number))))
   found_runs k d n item number s lt few framed stands le each =
-      let vs = numbers_below n number in
+      let vs = numbers_of_nodes n number in
       let i = passes_before k n in
       let r = nearer_end k n in
       let front = items_code d item n in
@@ -1738,7 +1738,7 @@ module _ (program : List Insn) (env : Setting) (last : ℕ) (solid : (k : ℕ) �
       let g = selects_run r d n vs t i long (omega (arith, lt)) few c.fact.there (c.fact.same.framed framed)
       (here_is t _ back c.slot (stands_back program s.frame.slot front back stands)) (omega (arith, len, le, c.slot)) in
       let u = g.new in
-      let is : kept_of r (left_after r i vs) ≡ at_place k (in_order vs) = sym (sorted_found k n vs long lt) in
+      let is : kept_of r (left_after r i vs) ≡ number_at_place k (in_order vs) = sym (sorted_found k n vs long lt) in
       record {
         new = u;
         run = chain program env s t u (length front) (length back) (length (front ++ back)) c.run g.run
@@ -1755,11 +1755,11 @@ module _ (program : List Insn) (env : Setting) (last : ℕ) (solid : (k : ℕ) �
       → IsFramed s → Stands program s.frame.slot (sorted_code k d n item)
       → s.frame.slot + length (sorted_code k d n item) ≤ last → ItemRuns d n item number s
       → Gets s (s.frame.slot + length (sorted_code k d n item)) (length (sorted_code k d n item))
-      (Has d s (at_place k (in_order (numbers_below n number))))
+      (Has d s (number_at_place k (in_order (numbers_of_nodes n number))))
   sorted_runs k d n item number s few framed stands le each =
       let found = items_code d item n ++ pass_codes (nearer_end k n) d n (suc (passes_before k n)) in
       let none = set_number R0 4294967295 ∷ [] in
-      let v = at_place k (in_order (numbers_below n number)) in
+      let v = number_at_place k (in_order (numbers_of_nodes n number)) in
       let P : List Insn → Type 0 = λ c. Stands program s.frame.slot c → s.frame.slot + length c ≤ last
       → Gets s (s.frame.slot + length c) (length c) (Has d s v) in
       let whole : P (sorted_code k d n item) = elim (cases_Bool (nat_lt k n)) [
@@ -1768,7 +1768,7 @@ module _ (program : List Insn) (env : Setting) (last : ℕ) (solid : (k : ℕ) �
             (λ st l. found_runs k d n item number s (ltb-true k n so) few framed st l each)
         | inr other ↦
             let past : n ≤ k = ltb-false k n other in
-            let is : 4294967295 ≡ v = sym (sorted_none k (numbers_below n number)
+            let is : 4294967295 ≡ v = sym (sorted_none k (numbers_of_nodes n number)
             (omega (arith, past, numbers_long n number))) in
             subst P (sym (cond-false (nat_lt k n) found none other))
             (λ st l. subst (λ (x : ℕ). Gets s (s.frame.slot + 1) 1 (Has d s x)) is
@@ -1902,11 +1902,11 @@ module _ (program : List Insn) (env : Setting) (last : ℕ) (solid : (k : ℕ) �
       let place = constant_number k z J in
       let item = λ (j : ℕ). term_code e z (J ++ j ∷ []) (d + j) Value in
       let number = λ (j : ℕ). value e z env (J ++ j ∷ []) u in
-      let numbers = in_order (numbers_below z.nodes number) in
-      let is : at_place place numbers ≡ at_place (value k z env J u) numbers =
-      ap (λ (x : ℕ). at_place x numbers) (constant_is k z J u fits.0) in
-      by_value_runs purpose (sorted_code place d z.nodes item) d (at_place (value k z env J u) numbers) s stands room
-      (λ st l. gets s _ _ _ _ (Has d s (at_place place numbers)) (Has d s (at_place (value k z env J u) numbers)) refl
+      let numbers = in_order (numbers_of_nodes z.nodes number) in
+      let is : number_at_place place numbers ≡ number_at_place (value k z env J u) numbers =
+      ap (λ (x : ℕ). number_at_place x numbers) (constant_is k z J u fits.0) in
+      by_value_runs purpose (sorted_code place d z.nodes item) d (number_at_place (value k z env J u) numbers) s stands room
+      (λ st l. gets s _ _ _ _ (Has d s (number_at_place place numbers)) (Has d s (number_at_place (value k z env J u) numbers)) refl
       (omega arith) (λ w x. subst (λ (v : ℕ). Has d s v w) is x)
       (sorted_runs place d z.nodes item number s fits.2 h.framed st l
       (λ j w lt same st2 l2.

@@ -74,9 +74,9 @@ least_below (suc n) holds message =
     if truth (holds n) then min (message n) (least_below n holds message) else least_below n holds message
 
 -- the numbers of the nodes below n, in the order of the nodes
-abbrev pub numbers_below : ℕ → (ℕ → ℕ) → List ℕ
-numbers_below zero number = []
-numbers_below (suc n) number = numbers_below n number ++ number n ∷ []
+abbrev pub numbers_of_nodes : ℕ → (ℕ → ℕ) → List ℕ
+numbers_of_nodes zero number = []
+numbers_of_nodes (suc n) number = numbers_of_nodes n number ++ number n ∷ []
 
 -- a number put into numbers that rise, before the first greater one
 abbrev pub put_in : ℕ → List ℕ → List ℕ
@@ -89,8 +89,8 @@ in_order [] = []
 in_order (v ∷ vs) = put_in v (in_order vs)
 
 -- the number at a place, from 0 on; NO_MAIL past the last
-abbrev pub at_place : ℕ → List ℕ → ℕ
-at_place k vs = slice_index_or vs k NO_MAIL
+abbrev pub number_at_place : ℕ → List ℕ → ℕ
+number_at_place k vs = slice_index_or vs k NO_MAIL
 
 -- ---- the memory and the messages
 
@@ -131,7 +131,7 @@ value (Count' p t) z env J u = count_below z.nodes (λ j. value t z env (J ++ j 
 value (Least' p t) z env J u =
     least_below z.nodes (λ j. value t z env (J ++ j ∷ []) u) (λ j. message_from z env j)
 value (Sorted' p k q e) z env J u =
-    at_place (value k z env J u) (in_order (numbers_below z.nodes (λ j. value e z env (J ++ j ∷ []) u)))
+    number_at_place (value k z env J u) (in_order (numbers_of_nodes z.nodes (λ j. value e z env (J ++ j ∷ []) u)))
 
 -- ---- statements
 
