@@ -36,7 +36,8 @@ for node:
     let x_1 = node
     if recv == x_1: NODES = NODES + 1
 let least = least condition: mail[condition] >= NODES
-clock = least if least < none else count condition: mail[condition] == NODES
+let number_at = sorted[f * (n > 3)] insert_number: mail[insert_number] + x_1
+clock = least + number_at if least < none else count condition: mail[condition] == NODES
 for _pulse: send clock + int to _pulse
 """
 # A rule may have a name that it doesn't use.

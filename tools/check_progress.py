@@ -4,7 +4,9 @@
 - `explore` shows once a second how far it is, on one line that it writes over, and ends that line.
 - `sweep`, whose output is no terminal, shows seeds done, seeds a second and seconds left. These three must fit one another.
   Both are given more to do until a second has passed, so that a fast machine is watched too.
-- `run --workers 4` has more than one thread if the pulses are long, and `--workers 1` has one.
+- Each state but the first is found by a transition, so `explore` shows at least as many transitions but one.
+- `run --workers 4` and `run --json --workers 4` have more than one thread if the pulses are long, and `--workers 1` has
+  one. So it is for `sweep`, which has a thread for each processor without the option.
 """
 import errno
 import os
@@ -20,9 +22,10 @@ from built_program import SECONDS, TOP, named_program
 
 SEARCHED = re.compile(r"(\d+) states, (\d+) transitions, (\d+) s ")
 SWEPT = re.compile(r"(\d+) of (\d+) keys, (\d+) a second, (\d+) s left ")
-SEEDS = [40_000, 160_000, 640_000, 2_560_000]
-# The search for so many states of this bench takes seconds, on a fast machine for the later numbers.
-STATES = [12_000, 16_000, 20_000]
+# The first numbers are for a build without a proof, the others for faster programs and machines.
+SEEDS = [200, 40_000, 160_000, 640_000, 2_560_000]
+STATES = [300, 12_000, 16_000, 20_000]
+PULSES = [10, 1000]
 SIXTEEN = """nodes = 16
 faults = 5
 modulus = 8
@@ -37,7 +40,7 @@ nodes = 64
 faults = 1
 modulus = 8
 memory = 8
-pulses = 1000
+pulses = PULSES
 coins = "zeros"
 
 [[load]]
@@ -95,6 +98,8 @@ def search_faults(program):
         yield f"explore told these seconds: {seconds}"
     if counts != sorted(counts):
         yield f"explore told fewer states or transitions than before: {counts}"
+    if any(transitions < states - 1 for states, transitions, _ in counts):
+        yield f"explore told more states than transitions lead to: {counts}"
     if counts and not told.endswith("\r\n"):
         yield f"explore left its line open: {told[-80:]!r}"
 
@@ -129,12 +134,11 @@ def sweep_faults(program):
     yield f"a sweep of {SEEDS[-1]} seeds took less than a second"
 
 
-def most_threads(program, workers):
-    """The most threads that are seen of a run on so many workers."""
+def most_threads(program, words, given):
+    """The most threads that are seen of a command."""
     seen = 0
-    words = [program, "run", "--workers", str(workers)]
-    with subprocess.Popen(words, stdin=subprocess.PIPE, stdout=subprocess.DEVNULL) as job:
-        job.stdin.write(LONG.encode())
+    with subprocess.Popen([program, *words], stdin=subprocess.PIPE, stdout=subprocess.DEVNULL) as job:
+        job.stdin.write(given.encode())
         job.stdin.close()
         while job.poll() is None:
             try:
@@ -145,11 +149,27 @@ def most_threads(program, workers):
     return seen
 
 
+def sized_cases():
+    """Commands with their inputs, from short ones to long ones."""
+    drawn = (TOP / "examples/chacha.toml").read_text(encoding="utf-8")
+    runs = [LONG.replace("PULSES", str(pulses)) for pulses in PULSES]
+    yield [(["run"], run) for run in runs]
+    yield [(["run", "--json"], run) for run in runs]
+    yield [(["sweep", "--keys", f"1..{seeds}"], drawn) for seeds in SEEDS]
+
+
 def thread_faults(program):
-    for workers, wanted in [(1, "one thread"), (4, "more than one thread")]:
-        seen = most_threads(program, workers)
-        if (seen > 1) != (workers > 1):
-            yield f"run --workers {workers} had {seen} threads in place of {wanted}"
+    for cases in sized_cases():
+        words, given = cases[-1]
+        for words, given in cases:
+            if most_threads(program, [*words, "--workers", "4"], given) > 1:
+                break
+        else:
+            yield f"{' '.join(words)} --workers 4 had one thread"
+        if most_threads(program, [*words, "--workers", "1"], given) > 1:
+            yield f"{' '.join(words)} --workers 1 had more than one thread"
+        if words[0] == "sweep" and len(os.sched_getaffinity(0)) > 1 and most_threads(program, words, given) == 1:
+            yield f"{' '.join(words)} had one thread"
 
 
 def main():
@@ -157,7 +177,7 @@ def main():
     faults = [*search_faults(program), *sweep_faults(program), *thread_faults(program)]
     for fault in faults:
         print(fault)
-    print(f"check_progress: a search, a sweep and two runs: {len(faults)} faults")
+    print(f"check_progress: a search, sweeps and runs: {len(faults)} faults")
     return 1 if faults else 0
 
 

@@ -17,8 +17,13 @@ from rule_text import MAX_FRAMES, MAX_LOOKUPS, Reader, Refused
 
 SEED, DRAWN, FAULTY, CASES = 9669, 300, 400, 3
 NODES = (1, 4, 7)
-PIECES = ["$", "x", "9" * 12, " ", "\n", "\t", *"( ) : , if else count least mail table [ ] none = == to".split()]
+PIECES = ["$", "x", "9" * 12, " ", "\n", "\t", *"( ) : , if else count least sorted mail table [ ] none = == to".split()]
 OPERATORS = ["+", "-", "*", "/", "%", "==", "!=", "<", "<=", ">", ">=", "and", "or"]
+
+
+def loops_in(names):
+    """The names of nodes: those of loops, and of count, least and sorted."""
+    return [it for it in names if it[0] in "ij"]
 
 
 class Drawing:
@@ -55,16 +60,23 @@ class Drawing:
             return f"({inner()} if {inner()} else {inner()})"
         if kind == 4:
             name = f"i{depth}"
-            return f"({self.dice.choice(['count', 'least'])} {name}: {inner([name])})"
+            word = self.dice.choice(["count", "least", f"sorted[{self.place(names)}]"])
+            return f"({word} {name}: {inner([name])})"
         if kind == 5:
             return f"(not {inner()})"
         return f"({inner()} {self.dice.choice(OPERATORS)} {inner()})"
 
     def receiver(self, names):
         """Any term, or a constant: a number, the node of a loop, or computed of constants."""
-        loops = [it for it in names if it[0] == "j"]
-        constants = ["0", "1", "3", "4294967295", "n", "n - 1", "(f + 1) % n", "2 * f - n", "(M > 7)", *loops]
-        return self.term(names, 1) if self.dice.random() < 0.5 else self.dice.choice(constants)
+        constants = ["0", "1", "3", "4294967295", "n", "n - 1", "(f + 1) % n", "2 * f - n", "(M > 7)"]
+        return self.term(names, 1) if self.dice.random() < 0.5 else self.dice.choice([*constants, *loops_in(names)])
+
+    def place(self, names):
+        """A constant, which may be past the last node. Now and then it is another term, which is no place."""
+        if self.dice.random() < 0.02:
+            return self.term(names, 1)
+        constants = ["0", "1", "2", "f", "n - 1", "(n - f) / 2", "n - f - 1", "f * (n > 3)", "n", "n + f", "f - 1", "none"]
+        return self.dice.choice([*constants, *loops_in(names)])
 
     def statement(self, names, targets, indent, depth):
         front, term = "    " * indent, self.term(names, 2)

@@ -161,6 +161,8 @@ class ClaimReader(Reader):
     def any_term(self):
         if self.at("count"):
             raise Refused("Expected", self.now.place, "a count isn't part of claims: they have p.clock, p.sent")
+        if self.at("sorted"):
+            raise Refused("Expected", self.now.place, "sorted isn't part of claims: they have p.clock, p.sent")
         return super().any_term()
 
     def atom(self):

@@ -177,14 +177,32 @@ class CountingNode(Terms):
             raise OutsideCounts(term.place, "a least message in a count or in another one")
         return self.extreme(NONE, "<", term.node, [term.test])
 
+    def ranked(self, term):
+        """That of some message: at most as many as the place are less, and more than so many aren't greater."""
+        if any(MESSAGE in str(it) for it in self.heard.values()):
+            raise OutsideCounts(term.place, "a sorted number in a count or in another one")
+        place, item = self.named(self.value(term.at)), self.at_message(term.node, lambda: self.value(term.item))
+        found, is_place = self.formula.number(f"{self.label}.sorted"), compared("<", place, self.sizes["n"])
+        less, up_to, equal = (
+            self.counted(lambda message, sign=sign: compared(sign, item(message), found)).count for sign in ("<", "<=", "==")
+        )
+        self.formula.add(compared("==", total(less, equal), up_to))
+        within = all_of(compared("<=", less, place), compared("<", place, up_to))
+        self.formula.add(chosen_condition(is_place, within, compared("==", found, NONE)))
+        return found
+
     def tests_at(self, node, tests):
         """The condition that tests hold now, as a function of the message of a node."""
+        return self.at_message(node, lambda: all_of(*map(self.holds, tests)))
+
+    def at_message(self, node, read):
+        """What is read with the numbers of now, as a function of the message of a node."""
         then = dict(self.store), dict(self.heard)
 
         def at(message):
             kept = self.store, self.heard
             self.store, self.heard = then[0], {**then[1], node: message}
-            found = all_of(*map(self.holds, tests))
+            found = read()
             self.store, self.heard = kept
             return found
 

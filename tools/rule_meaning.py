@@ -118,6 +118,19 @@ def least(term):
     return value
 
 
+def ranked(term):
+    at, item = value_of(term.at), value_of(term.item)
+
+    def value(state):
+        place, found = at(state), []
+        for node in range(state.sizes.nodes):
+            state.nodes[term.node] = node
+            found.append(item(state))
+        return sorted(found)[place] if place < len(found) else NONE
+
+    return value
+
+
 def lookup(term):
     index = value_of(term.index)
 
@@ -145,7 +158,8 @@ def choice(term):
 
 TERMS = {
     tree.Number: number, tree.Given: given, tree.Name: named, tree.Mail: mail, tree.Count: count,
-    tree.Least: least, tree.Lookup: lookup, tree.Inverse: inverse, tree.Binary: binary, tree.Choice: choice,
+    tree.Least: least, tree.Sorted: ranked, tree.Lookup: lookup, tree.Inverse: inverse, tree.Binary: binary,
+    tree.Choice: choice,
 }
 
 

@@ -10,7 +10,7 @@ import re
 WORDS = "state let if elif else for count send to and or not mail n f M me coin none clock table sorted".split()
 TOKEN = re.compile(rb"(?P<number>[0-9]+)|(?P<name>[A-Za-z_][A-Za-z0-9_]*)|(?P<sign>==|!=|<=|>=|[-+*/%<>=,:()\[\]])")
 NONE, LIMIT = 2**32 - 1, 2**32
-MAX_LETTERS, MAX_PARTS, MAX_NAMES, MAX_LINES, MAX_TOKENS = 32, 200, 200, 512, 1000
+MAX_LETTERS, MAX_PARTS, MAX_NAMES, MAX_LINES, MAX_TOKENS = 32, 200, 200, 2048, 1000
 MAX_CELLS, MAX_LOOKUPS = 1024, 64
 # A table with so many cells: the four tokens before them, each with a comma or the bracket after it.
 MAX_TABLE_TOKENS = 4 + 2 * MAX_CELLS
@@ -69,6 +69,16 @@ class Count:
 class Least:
     node: str
     test: object
+    place: tuple
+
+
+@dataclasses.dataclass(frozen=True)
+class Sorted:
+    """The number at a place, from 0 on, among those of an item at all nodes in rising order; `none` past the last."""
+
+    node: str
+    at: object  # a constant
+    item: object
     place: tuple
 
 
@@ -159,6 +169,17 @@ class Loop:
 class Rule:
     words: list  # their names, in the order of the memory
     body: list
+
+
+def is_constant(term):
+    """Whether a term is a number, a size, the node of a loop, or computed of constants."""
+    if isinstance(term, Lookup):
+        return len(term.runs()) == 1  # the compiler reads it as a number
+    if isinstance(term, Binary):
+        return term.sign not in ("and", "or") and is_constant(term.left) and is_constant(term.right)
+    if isinstance(term, Given):
+        return term.name not in ("me", "coin")
+    return isinstance(term, Number) or isinstance(term, Name) and term.kind == "node"
 
 
 def parts_of(tree):
@@ -487,6 +508,8 @@ class Reader:
             return self.aggregate(Count)
         if self.is_least():
             return self.aggregate(Least)
+        if self.at("sorted"):
+            return self.sorted()
         first = self.either()
         if not self.at("if"):
             return first
@@ -504,6 +527,18 @@ class Reader:
         name = self.new_name()
         self.expect(":")
         return kind(name, self.in_scope(name, ("node", None), self.term), place)
+
+    def sorted(self):
+        place = self.next().place
+        self.expect("[")
+        begins = self.now.place
+        at = self.term()
+        if not is_constant(at):
+            raise Refused("Expected", begins, "expected a constant, such as f or n - 1")
+        self.expect("]")
+        name = self.new_name()
+        self.expect(":")
+        return Sorted(name, at, self.in_scope(name, ("node", None), self.term), place)
 
     def chain(self, part, signs):
         """Parts with signs between them, from the left."""

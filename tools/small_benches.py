@@ -65,6 +65,22 @@ class RunningNode(Terms):
             found = self.named(chosen(is_less, message, found))
         return found
 
+    def ranked(self, term):
+        """The number of some node: no more than so many are less, and more than so many aren't greater."""
+        place, items = self.value(term.at), []
+        for node in range(len(self.inbox)):
+            self.nodes[term.node] = node
+            items.append(self.named(self.value(term.item)))
+        if place >= len(items):
+            return NONE
+        if all(map(are_known, items)):
+            return sorted(items)[place]
+        found = self.formula.number("sorted")
+        less, up_to = (total(*(chosen(compared(sign, it, found), 1, 0) for it in items)) for sign in ("<", "<="))
+        self.formula.add(any_of(*(compared("==", it, found) for it in items)))
+        self.formula.add(compared("<=", less, place), compared("<", place, up_to))
+        return found
+
     def arithmetic(self, term, left, right):
         return wrapped(term.sign, left, right)
 

@@ -11,6 +11,7 @@ import dataclasses
 from claims_text import ANY, SENT, Field
 from rule_text import (
     LIMIT, NONE, Assignment, Binary, Cases, Choice, Count, Given, Inverse, Least, Let, Lookup, Mail, Name, Number, Send,
+    Sorted,
 )
 
 OPPOSITE = {"==": "!=", "!=": "==", "<": ">=", ">=": "<", ">": "<=", "<=": ">"}
@@ -179,6 +180,8 @@ def form(term, store, around, k):
         return fresh(ALWAYS, k, atom([Variable(k)], [NODES]))
     if isinstance(term, Least):
         raise NotCovered("a least message")
+    if isinstance(term, Sorted):
+        raise NotCovered("a sorted number")
     if isinstance(term, Lookup):
         return form(term.choices(), store, around, k)
     if isinstance(term, Choice):

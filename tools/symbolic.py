@@ -7,7 +7,7 @@ import re
 import shutil
 import subprocess
 
-from rule_text import LIMIT, Binary, Choice, Count, Given, Inverse, Least, Lookup, Mail, Name, Number
+from rule_text import LIMIT, Binary, Choice, Count, Given, Inverse, Least, Lookup, Mail, Name, Number, Sorted
 
 SAT, UNSAT = "sat", "unsat"
 VALUE = re.compile(r"\(([^\s()]+) (\d+|\(- \d+\)|true|false)\)")
@@ -124,7 +124,7 @@ def wrapped(sign, one, other):
 
 # ---- terms
 
-LEAVES = {Given: "given", Name: "name", Mail: "mail", Count: "count", Least: "least"}
+LEAVES = {Given: "given", Name: "name", Mail: "mail", Count: "count", Least: "least", Sorted: "ranked"}
 
 
 class Terms:

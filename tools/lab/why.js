@@ -6,7 +6,7 @@ import { Rule } from "./rule.js";
 const STEP = /^step (\d+) slot (\d+) (.*?)(?: #(?: (.+?))??(?: -> (.*))?)?$/, LINE = /^line (\d+) (.*)$/;
 const STORE = /^st(?:xw|w) \[r6\+(\d+)\], (\S+)$/, LOAD = /^ldxw \w+, \[r6\+(\d+)\]$/;
 const BRANCH = /^j(\w\w)(?:32)? (\w+), (\S+),/;
-const COMPARED = /^(?:el)?if (.+?) (==|!=|<=|>=|<|>) (.+?):/, PARTS = /\b(?:and|or|not|if|count|least)\b|[[<>]|[=!]=/;
+const COMPARED = /^(?:el)?if (.+?) (==|!=|<=|>=|<|>) (.+?):/, PARTS = /\b(?:and|or|not|if|count|least|sorted)\b|[[<>]|[=!]=/;
 const OF_BRANCH = { eq: "==", ne: "!=", lt: "<", le: "<=", gt: ">", ge: ">=" };
 const OPPOSITE = { "==": "!=", "!=": "==", "<": ">=", ">=": "<", ">": "<=", "<=": ">" };
 const NONE = "4294967295";

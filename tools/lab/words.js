@@ -8,14 +8,14 @@ const ASSEMBLER = [
   ...each("sx8_32 sx16_32 sx8_64 sx16_64 sx32_64 le16 le32 le64 be16 be32 be64 swap16 swap32 swap64", ""),
   ...each("ja jal call exit id recv send coin", ""),
 ];
-const TERMS = each("count least mail clock coin none me and or not if else", "");
+const TERMS = each("count least sorted mail clock coin none me and or not if else", "");
 const RULE = each("state table let if elif else for send to", "");
 const SCENARIO = each("version nodes faults modulus memory pulses coins key clock rule load unload corrupt coin pulse" +
   " node program text values image value say echo asm noise chacha zeros ones", "");
 const WORDS = { toml: SCENARIO, rule: RULE, asm: ASSEMBLER };
 /** What an unknown name in a rule may have meant. */
-export const RULE_HINT = "A rule knows: count j: .., least j: .., for j: .., mail[j], clock, coin, none, me, n, f, M, " +
-  "and the names of let, state and table. Ctrl+Space lists words.";
+export const RULE_HINT = "A rule knows: count j: .., least j: .., sorted[f] j: .., for j: .., mail[j], clock, coin, none, me, " +
+  "n, f, M, and the names of let, state and table. Ctrl+Space lists words.";
 
 /** Returns the words of a language, those first that fit behind this part of a line. */
 export function wordsFor(kind, before) {
@@ -25,7 +25,7 @@ export function wordsFor(kind, before) {
 
 /** `least` is a word if a name follows it. */
 const LEAST = "least(?=\\s+(?!(?:if|else|and|or|to)\\b)[A-Za-z_])";
-const RULE_WORDS = `state|table|let|if|elif|else|for|send|to|count|${LEAST}|and|or|not`;
+const RULE_WORDS = `state|table|let|if|elif|else|for|send|to|count|sorted|${LEAST}|and|or|not`;
 /** For each kind of line the forms of its parts; of those that fit at a place the first counts. */
 const FORMS = {
   toml: [

@@ -50,7 +50,8 @@ mod shared_pulse;
 
 pub use bench_workers::{
     Event, Gate, MAX_WORKERS, Open, Run, RunFault, RunRefusal, Shown, Stop, ThreadStarts,
-    WatchFault, Watcher, WorkError, laws, run_events, run_events_on, run_events_watched,
+    TrackedThreads, WatchFault, Watcher, WorkError, laws, run_events, run_events_on,
+    run_events_watched,
 };
 pub use engine_error::EngineError;
 pub use shared_pulse::{pulse, pulse_with};

@@ -15,7 +15,7 @@ ghost use Rattle.bench_engine.specs.inner.Pulses.{IsLater};
 use crate::engine_error::EngineError;
 use bench_core::{NodeTask, PulseRecord};
 use bench_shared::{Board, EnginePass, SharedBench};
-use bench_workers::{Gate, ThreadStarts, run_tasks};
+use bench_workers::{Gate, TrackedThreads, run_tasks};
 use std::alloc::Global;
 use std::sync::Wait;
 use std::sync::ledger::Ledger;
@@ -52,8 +52,9 @@ pub fn pulse<B: Ledger, C: Ledger, R: Threads + Wait + Sync, G: Gate + Sync>(
     ensures open { G.always gate.now ≡ true → IfErr result (λ e. e ≢ Work GateShut) }
     ensures alone { workers ≡ 1 → IfErr result (λ e. e ≢ Work NoThread) }
 {
+    let mut threads = TrackedThreads::of(rt);
     pulse_with(
-        rt,
+        &mut threads,
         alloc,
         shared,
         board,
@@ -61,13 +62,12 @@ pub fn pulse<B: Ledger, C: Ledger, R: Threads + Wait + Sync, G: Gate + Sync>(
         gate,
         workers,
         coins,
-        &mut ThreadStarts::new(),
     )
 }
 
 /// Does as [`pulse`], and tells whether a start of a thread failed.
 pub fn pulse_with<B: Ledger, C: Ledger, R: Threads + Wait + Sync, G: Gate + Sync>(
-    rt: &R,
+    threads: &mut TrackedThreads<'_, R>,
     alloc: Global,
     shared: &SharedBench<B, C>,
     board: &Board,
@@ -75,7 +75,6 @@ pub fn pulse_with<B: Ledger, C: Ledger, R: Threads + Wait + Sync, G: Gate + Sync
     gate: &G,
     workers: u32,
     coins: &[u32],
-    starts: &mut ThreadStarts,
 ) -> Result<PulseRecord, EngineError>
     requires some { 1 ≤ workers }
     requires few { workers ≤ MAX_WORKERS }
@@ -94,18 +93,18 @@ pub fn pulse_with<B: Ledger, C: Ledger, R: Threads + Wait + Sync, G: Gate + Sync
     ensures refusal { IfErr result (IsPulseRefusal shared.now coins.now) }
     ensures open { G.always gate.now ≡ true → IfErr result (λ e. e ≢ Work GateShut) }
     ensures alone { workers ≡ 1 → IfErr result (λ e. e ≢ Work NoThread) }
-    ensures thread { has_failed starts.new ≡ false → IfErr result (λ e. e ≢ Work NoThread) }
+    ensures thread { has_failed threads.new.starts ≡ false → IfErr result (λ e. e ≢ Work NoThread) }
 {
-    let tasks = match shared.open_pulse(rt, alloc, engine, coins) {
+    let tasks = match shared.open_pulse(threads.runtime, alloc, engine, coins) {
         Ok(tasks) => tasks,
         Err(error) => return Err(EngineError::Open(error)),
     };
-    match run_and_close(rt, alloc, shared, engine, gate, workers, tasks, starts) {
+    match run_and_close(threads, alloc, shared, engine, gate, workers, tasks) {
         Ok(told) => {
             board.post(engine, told.row);
             Ok(told)
         }
-        Err(error) => match shared.abandon(rt, engine) {
+        Err(error) => match shared.abandon(threads.runtime, engine) {
             Ok(()) => Err(error),
             Err(refusal) => Err(EngineError::Close(refusal)),
         },
@@ -114,14 +113,13 @@ pub fn pulse_with<B: Ledger, C: Ledger, R: Threads + Wait + Sync, G: Gate + Sync
 
 /// Runs the tasks of the open pulse, and closes it.
 fn run_and_close<B: Ledger, C: Ledger, R: Threads + Wait + Sync, G: Gate + Sync>(
-    rt: &R,
+    threads: &mut TrackedThreads<'_, R>,
     alloc: Global,
     shared: &SharedBench<B, C>,
     engine: &mut EnginePass<B, C>,
     gate: &G,
     workers: u32,
     tasks: Vec<NodeTask>,
-    starts: &mut ThreadStarts,
 ) -> Result<PulseRecord, EngineError>
     requires some { 1 ≤ workers }
     requires few { workers ≤ MAX_WORKERS }
@@ -137,10 +135,10 @@ fn run_and_close<B: Ledger, C: Ledger, R: Threads + Wait + Sync, G: Gate + Sync>
     ensures later { IfErr result IsLater }
     ensures open { G.always gate.now ≡ true → IfErr result (λ e. e ≢ Work GateShut) }
     ensures alone { workers ≡ 1 → IfErr result (λ e. e ≢ Work NoThread) }
-    ensures thread { has_failed starts.new ≡ false → IfErr result (λ e. e ≢ Work NoThread) }
+    ensures thread { has_failed threads.new.starts ≡ false → IfErr result (λ e. e ≢ Work NoThread) }
 {
-    match run_tasks(rt, alloc, gate, workers, tasks, starts) {
-        Ok(dones) => match shared.close_pulse(rt, alloc, engine, dones) {
+    match run_tasks(threads, alloc, gate, workers, tasks) {
+        Ok(dones) => match shared.close_pulse(threads.runtime, alloc, engine, dones) {
             Ok(told) => Ok(told),
             Err((_, error)) => Err(EngineError::Close(error)),
         },

@@ -9,7 +9,7 @@ ghost use Rattle.bench_scenario.specs.Runs.{bench_of};
 
 use crate::run::bench_for;
 use crate::schedule::events_with_key;
-use bench_workers::{Open, Run, RunRefusal, run_events_on};
+use bench_workers::{Open, Run, RunRefusal, TrackedThreads, run_events_on};
 use scenario_text::Scenario;
 use std::alloc::{AllocError, Global};
 use std::sync::Wait;
@@ -28,7 +28,8 @@ pub fn run_with_key<T: Threads + Wait + Sync>(
 {
     let events = events_with_key(alloc, scenario, key)?;
     let bench = bench_for(alloc, scenario)?;
-    match run_events_on(rt, alloc, &Open, 1, bench, events) {
+    let mut threads = TrackedThreads::of(rt);
+    match run_events_on(&mut threads, alloc, &Open, 1, bench, events) {
         Ok(run) => Ok(run),
         Err(fault) => Err(want_of(fault.fault)),
     }

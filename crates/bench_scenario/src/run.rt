@@ -11,7 +11,7 @@ use crate::printing::{RunReport, report};
 use crate::reading::{TextFault, read_scenario};
 use crate::schedule::events;
 use bench_core::Bench;
-use bench_workers::{MAX_WORKERS, Open, RunFault, run_events_on};
+use bench_workers::{MAX_WORKERS, Open, RunFault, TrackedThreads, run_events_on};
 use scenario_text::{MAX_TEXT, Scenario, ScenarioError};
 use std::alloc::{AllocError, Global};
 use std::sync::Wait;
@@ -89,7 +89,8 @@ fn report_of<T: Threads + Wait + Sync>(
         return Err(ReportFault::Memory);
     };
     let workers = useful_workers(scenario, workers);
-    let run = match run_events_on(rt, alloc, &Open, workers, bench, events) {
+    let mut threads = TrackedThreads::of(rt);
+    let run = match run_events_on(&mut threads, alloc, &Open, workers, bench, events) {
         Ok(run) => run,
         Err(fault) => return Err(ReportFault::Run(fault)),
     };

@@ -10,7 +10,9 @@ ghost use Rattle.bench_scenario.specs.Watching.{ScenarioEndsAt};
 use crate::paying::useful_workers;
 use crate::run::bench_for;
 use crate::schedule::events;
-use bench_workers::{MAX_WORKERS, Open, Run, RunFault, WatchFault, Watcher, run_events_watched};
+use bench_workers::{
+    MAX_WORKERS, Open, Run, RunFault, TrackedThreads, WatchFault, Watcher, run_events_watched,
+};
 use scenario_text::Scenario;
 use std::alloc::Global;
 use std::sync::Wait;
@@ -54,7 +56,17 @@ pub fn run_watched<T: Threads + Wait + Sync, S, K: Watcher<S>>(
         return Err(WatchedFault::Memory);
     };
     let workers = useful_workers(scenario, workers);
-    match run_events_watched(rt, alloc, &Open, workers, bench, events, watcher, sink) {
+    let mut threads = TrackedThreads::of(rt);
+    match run_events_watched(
+        &mut threads,
+        alloc,
+        &Open,
+        workers,
+        bench,
+        events,
+        watcher,
+        sink,
+    ) {
         Ok(run) => Ok(run),
         Err(WatchFault::Run(fault)) => Err(WatchedFault::Run(fault)),
         Err(WatchFault::Stopped(event)) => Err(WatchedFault::Stopped(event)),

@@ -15,7 +15,9 @@ use crate::loaders::{Programs, accept_both, begin, join_all};
 use crate::setup::setup;
 use crate::stop::{Stop, first_of};
 use bench_core::{CloseError, OpenError};
-use bench_engine::{EngineError, MAX_WORKERS, Open, ThreadStarts, WorkError, pulse_with};
+use bench_engine::{
+    EngineError, MAX_WORKERS, Open, ThreadStarts, TrackedThreads, WorkError, pulse_with,
+};
 use bench_shared::{Board, EnginePass, Finished, LoaderPass, MAX_LOADERS, SharedBench, WatchPass};
 use parameters::StressOptions;
 use std::alloc::Global;
@@ -45,14 +47,13 @@ fn of_pulse(error: EngineError) -> Stop
 
 /// Runs the pulses, and looks at the board after each.
 fn all_pulses<B: Ledger, C: Ledger, R: Threads + Wait + Sync>(
-    rt: &R,
+    threads: &mut TrackedThreads<'_, R>,
     alloc: Global,
     options: StressOptions,
     shared: &SharedBench<B, C>,
     board: &Board,
     engine: &mut EnginePass<B, C>,
     watch: &mut WatchPass,
-    starts: &mut ThreadStarts,
 ) -> Option<Stop>
     requires some { 1 ≤ options.workers }
     requires few { options.workers ≤ MAX_WORKERS }
@@ -60,11 +61,11 @@ fn all_pulses<B: Ledger, C: Ledger, R: Threads + Wait + Sync>(
     requires watcher { watch.old.board ≡ board.now }
     requires paid { engine.old.owed ≡ None }
     ensures paid { engine.new.owed ≡ None }
-    ensures thread { has_failed starts.new ≡ false → result ≢ Some Thread }
+    ensures thread { has_failed threads.new.starts ≡ false → result ≢ Some Thread }
 {
     for _pulse in 0..options.pulses {
         match pulse_with(
-            rt,
+            threads,
             alloc,
             shared,
             board,
@@ -72,7 +73,6 @@ fn all_pulses<B: Ledger, C: Ledger, R: Threads + Wait + Sync>(
             &Open,
             options.workers,
             &COINS,
-            starts,
         ) {
             Ok(_told) => {
                 let _seen = board.look(watch);
@@ -87,7 +87,7 @@ fn all_pulses<B: Ledger, C: Ledger, R: Threads + Wait + Sync>(
 /// pulse is run.
 fn run_in<'s, E, B: Ledger + Send + Sync, C: Ledger + Send + Sync, R: Threads + Wait + Sync>(
     scope: &Scope<'s, E>,
-    rt: &'s R,
+    threads: &mut TrackedThreads<'s, R>,
     alloc: Global,
     options: StressOptions,
     shared: &'s SharedBench<B, C>,
@@ -96,7 +96,6 @@ fn run_in<'s, E, B: Ledger + Send + Sync, C: Ledger + Send + Sync, R: Threads + 
     engine: &mut EnginePass<B, C>,
     watch: &mut WatchPass,
     passes: Vec<LoaderPass<B, C>>,
-    starts: &mut ThreadStarts,
 ) -> (Vec<LoaderPass<B, C>>, Option<Stop>)
     requires some { 1 ≤ options.workers }
     requires few { options.workers ≤ MAX_WORKERS }
@@ -104,15 +103,15 @@ fn run_in<'s, E, B: Ledger + Send + Sync, C: Ledger + Send + Sync, R: Threads + 
     requires watcher { watch.old.board ≡ board.now }
     requires paid { engine.old.owed ≡ None }
     ensures paid { engine.new.owed ≡ None }
-    ensures thread { has_failed starts.new ≡ false → result.1 ≢ Some Thread }
+    ensures thread { has_failed threads.new.starts ≡ false → result.1 ≢ Some Thread }
 {
     let loads = options.loads;
-    let (begun, refused) = begin(scope, rt, alloc, shared, programs, passes, loads, starts);
+    let (begun, refused) = begin(scope, threads, alloc, shared, programs, passes, loads);
     let stopped = match refused {
-        None => all_pulses(rt, alloc, options, shared, board, engine, watch, starts),
+        None => all_pulses(threads, alloc, options, shared, board, engine, watch),
         Some(_) => None,
     };
-    let (passes, failed) = join_all(rt, alloc, begun);
+    let (passes, failed) = join_all(threads.runtime, alloc, begun);
     (passes, first_of(refused, first_of(stopped, failed)))
 }
 
@@ -121,7 +120,7 @@ type Worked<B, C> = (EnginePass<B, C>, Vec<LoaderPass<B, C>>, Option<Stop>);
 
 /// Returns the loaders in threads of their own, and the engine beside them on the caller's.
 fn beside<B: Ledger + Send + Sync, C: Ledger + Send + Sync, R: Threads + Wait + Sync>(
-    rt: &R,
+    threads: &mut TrackedThreads<'_, R>,
     alloc: Global,
     options: StressOptions,
     shared: &SharedBench<B, C>,
@@ -130,7 +129,6 @@ fn beside<B: Ledger + Send + Sync, C: Ledger + Send + Sync, R: Threads + Wait + 
     engine: EnginePass<B, C>,
     watch: WatchPass,
     passes: Vec<LoaderPass<B, C>>,
-    starts: &mut ThreadStarts,
 ) -> Worked<B, C>
     requires some { 1 ≤ options.workers }
     requires few { options.workers ≤ MAX_WORKERS }
@@ -138,12 +136,13 @@ fn beside<B: Ledger + Send + Sync, C: Ledger + Send + Sync, R: Threads + Wait + 
     requires watcher { watch.board ≡ board.now }
     requires paid { engine.owed ≡ None }
     ensures paid { result.0.owed ≡ None }
-    ensures thread { has_failed starts.new ≡ false → result.2 ≢ Some Thread }
+    ensures thread { has_failed threads.new.starts ≡ false → result.2 ≢ Some Thread }
 {
-    let before = *starts;
+    let runtime = threads.runtime;
+    let before = threads.starts;
     let (worked, after) = thread::scope(
         thread::scope_env(),
-        rt,
+        runtime,
         move |scope| -> (Worked<B, C>, ThreadStarts)
             requires some { 1 ≤ options.workers }
             requires few { options.workers ≤ MAX_WORKERS }
@@ -153,10 +152,14 @@ fn beside<B: Ledger + Send + Sync, C: Ledger + Send + Sync, R: Threads + Wait + 
             ensures paid { result.0.0.owed ≡ None }
             ensures thread { has_failed result.1 ≡ false → result.0.2 ≢ Some Thread }
         {
-            let (mut engine, mut watch, mut starts) = (engine, watch, before);
+            let (mut engine, mut watch) = (engine, watch);
+            let mut threads = TrackedThreads {
+                runtime,
+                starts: before,
+            };
             let (passes, stop) = run_in(
                 scope,
-                rt,
+                &mut threads,
                 alloc,
                 options,
                 shared,
@@ -165,12 +168,11 @@ fn beside<B: Ledger + Send + Sync, C: Ledger + Send + Sync, R: Threads + Wait + 
                 &mut engine,
                 &mut watch,
                 passes,
-                &mut starts,
             );
-            ((engine, passes, stop), starts)
+            ((engine, passes, stop), threads.starts)
         },
     );
-    *starts = after;
+    threads.starts = after;
     worked
 }
 
@@ -199,12 +201,11 @@ fn has_entries(finished: &Finished, options: StressOptions) -> bool
 
 /// Returns the history of the bench after all that its hands did.
 fn hands<B: Ledger + Send + Sync, C: Ledger + Send + Sync, R: Threads + Wait + Sync>(
-    rt: &R,
+    threads: &mut TrackedThreads<'_, R>,
     alloc: Global,
     options: StressOptions,
     entries: Blank,
     closes: Blank,
-    starts: &mut ThreadStarts,
 ) -> Result<Finished, Stop>
     requires entries { (entries.name ≡ B.name) × (entries.parts ≡ B.parts) × (entries.parts ≡ options.loaders + 1) }
     requires closes { (closes.name ≡ C.name) × (closes.parts ≡ C.parts) × (closes.parts ≡ 1) }
@@ -213,7 +214,7 @@ fn hands<B: Ledger + Send + Sync, C: Ledger + Send + Sync, R: Threads + Wait + S
     ensures replays { IfOk result (HasReplay stressed_setup) }
     ensures accepted { IfOk result (All StagesAccepted) }
     ensures entries { IfOk result (HasEntries options.loaders options.loads options.pulses) }
-    ensures thread { has_failed starts.new ≡ false → IfErr result (λ stop. stop ≢ Thread) }
+    ensures thread { has_failed threads.new.starts ≡ false → IfErr result (λ stop. stop ≢ Thread) }
 {
     let (shape, rule) = setup();
     let programs = accept_both(alloc, shape, rule)?;
@@ -223,7 +224,7 @@ fn hands<B: Ledger + Send + Sync, C: Ledger + Send + Sync, R: Threads + Wait + S
     };
     let watch = only(watchers);
     let (engine, passes, stop) = beside(
-        rt, alloc, options, &shared, &programs, &board, engine, watch, passes, starts,
+        threads, alloc, options, &shared, &programs, &board, engine, watch, passes,
     );
     if let Some(stop) = stop {
         return Err(stop);
@@ -250,20 +251,19 @@ pub fn stress_bench<R: Threads + Wait + Sync>(
     ensures accepted { IfOk result (All StagesAccepted) }
     ensures entries { IfOk result (HasEntries (nearest options.loaders) options.loads options.pulses) }
 {
-    stress_bench_with(rt, alloc, options, &mut ThreadStarts::new())
+    stress_bench_with(&mut TrackedThreads::of(rt), alloc, options)
 }
 
 /// Does as [`stress_bench`], and tells whether a start of a thread failed.
 pub fn stress_bench_with<R: Threads + Wait + Sync>(
-    rt: &R,
+    threads: &mut TrackedThreads<'_, R>,
     alloc: Global,
     options: StressOptions,
-    starts: &mut ThreadStarts,
 ) -> Result<Finished, Stop>
     ensures replays { IfOk result (HasReplay stressed_setup) }
     ensures accepted { IfOk result (All StagesAccepted) }
     ensures entries { IfOk result (HasEntries (nearest options.loaders) options.loads options.pulses) }
-    ensures thread { has_failed starts.new ≡ false → IfErr result (λ stop. stop ≢ Thread) }
+    ensures thread { has_failed threads.new.starts ≡ false → IfErr result (λ stop. stop ≢ Thread) }
 {
     let loaders = options.loaders.clamp(1, MAX_LOADERS);
     let workers = options.workers.clamp(1, MAX_WORKERS);
@@ -273,5 +273,5 @@ pub fn stress_bench_with<R: Threads + Wait + Sync>(
         ..options
     };
     let (entries, closes) = (Blank::new(u64::from(loaders) + 1), Blank::new(1));
-    hands::<Brand, Brand, R>(rt, alloc, options, entries, closes, starts)
+    hands::<Brand, Brand, R>(threads, alloc, options, entries, closes)
 }

@@ -7,7 +7,7 @@ ghost use Rattle.bench_workers.specs.ThreadStarts.{has_failed};
 use crate::setup::NODES;
 use crate::stop::{Stop, first_of};
 use bench_core::StageError;
-use bench_engine::ThreadStarts;
+use bench_engine::TrackedThreads;
 use bench_shared::{LoaderPass, SharedBench};
 use bpf_insn::Program;
 use bpf_verify::{VerifiedProgram, VerifyError, verify};
@@ -111,23 +111,23 @@ pub(crate) type Loaded<B, C> = (LoaderPass<B, C>, Option<StageError>);
 /// Starts a thread for each loader, up to the first that can't be started.
 pub(crate) fn begin<'s, E, B: Ledger + Send + Sync, C: Ledger + Send + Sync, R: Wait + Sync>(
     scope: &Scope<'s, E>,
-    rt: &'s R,
+    threads: &mut TrackedThreads<'s, R>,
     alloc: Global,
     shared: &'s SharedBench<B, C>,
     programs: &'s Programs,
     passes: Vec<LoaderPass<B, C>>,
     loads: u32,
-    starts: &mut ThreadStarts,
 ) -> (Vec<JoinHandle<Loaded<B, C>>>, Option<Stop>)
-    ensures { has_failed starts.new ≡ false → result.1 ≢ Some Thread }
+    ensures { has_failed threads.new.starts ≡ false → result.1 ≢ Some Thread }
 {
     let Ok(mut begun) = Vec::with_capacity(alloc, passes.len()) else {
         return (Vec::new(alloc), Some(Stop::Memory));
     };
+    let rt = threads.runtime;
     let mut number: u32 = 0;
     for pass in passes {
         let job = move || load_all(rt, alloc, shared, programs, pass, number, loads);
-        match starts.start(scope, job) {
+        match threads.starts.start(scope, job) {
             Ok(handle) => begun.push_reserved(handle),
             Err(_) => return (begun, Some(Stop::Thread)),
         }

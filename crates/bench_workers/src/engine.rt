@@ -1,5 +1,5 @@
 //! The run of a list of events on a bench of its own.
-ghost use Rattle.std.specs.Prelude.{◌≡◌, ◌≢◌, ◌≤◌, ◌∷◌, [], true, None, IfOk, IfErr, OnOk, length, map};
+ghost use Rattle.std.specs.Prelude.{◌≡◌, ◌≢◌, ◌≤◌, ◌∷◌, [], true, false, None, IfOk, IfErr, OnOk, length, map};
 ghost use Rattle.bench_core.specs.declared.limits.TheConstants.{MAX_ENTRIES};
 ghost use Rattle.bench_core.specs.Told.{AreSteps};
 ghost use Rattle.bench_core.specs.State.{new_state, opened_state};
@@ -8,6 +8,7 @@ ghost use Rattle.bench_workers.specs.declared.event.RunRefusal.TheVariants.{Gate
 ghost use Rattle.bench_workers.specs.declared.work_error.WorkError.TheVariants as work;
 ghost use Rattle.bench_workers.specs.declared.tasks.TheConstants.{MAX_WORKERS};
 ghost use Rattle.bench_workers.specs.Events.{Stage, Pulse, event_of};
+ghost use Rattle.bench_workers.specs.ThreadStarts.{has_failed};
 ghost use Rattle.bench_workers.specs.inner.Going.{LeadsByEvent, IsOfWorkers};
 ghost use Rattle.bench_workers.specs.declared.watcher.WatchFault.TheVariants as WatchFault;
 ghost use Rattle.bench_workers.specs.inner.Watching.{IsOfRun};
@@ -16,7 +17,7 @@ ghost use Rattle.bench_workers.specs.Runs.{IsEventFault, IsRefusalOf, IsRun};
 use crate::event::{Event, Run, RunFault, RunRefusal};
 use crate::gate::Gate;
 use crate::tasks::run_tasks;
-use crate::thread_starts::ThreadStarts;
+use crate::thread_starts::TrackedThreads;
 use crate::watched::run_events_watched;
 use crate::watcher::{Nobody, WatchFault};
 use crate::work_error::WorkError;
@@ -50,7 +51,7 @@ pub(crate) fn stage(bench: &mut Bench, change: Change) -> Result<(), RunRefusal>
 
 /// Opens a pulse, runs its tasks and closes it.
 pub(crate) fn pulse<R: Threads + Wait + Sync, G: Gate + Sync>(
-    rt: &R,
+    threads: &mut TrackedThreads<'_, R>,
     alloc: Global,
     gate: &G,
     workers: u32,
@@ -67,6 +68,7 @@ pub(crate) fn pulse<R: Threads + Wait + Sync, G: Gate + Sync>(
     ensures refusal { IfErr result (IsRefusalOf bench.old.setup (length bench.old.history) (Pulse coins.items)) }
     ensures open { G.always gate.now ≡ true → IfErr result (λ e. e ≢ GateShut) }
     ensures alone { workers ≡ 1 → IfErr result (λ e. e ≢ NoThread) }
+    ensures thread { has_failed threads.new.starts ≡ false → IfErr result (λ e. e ≢ NoThread) }
 {
     if workers == 1 {
         return pulse_alone(alloc, gate, bench, coins);
@@ -78,7 +80,7 @@ pub(crate) fn pulse<R: Threads + Wait + Sync, G: Gate + Sync>(
         Err(OpenError::HistoryFull) => return Err(RunRefusal::HistoryFull),
         Err(OpenError::Memory) => return Err(RunRefusal::Memory),
     };
-    let dones = match run_tasks(rt, alloc, gate, workers, tasks, &mut ThreadStarts::new()) {
+    let dones = match run_tasks(threads, alloc, gate, workers, tasks) {
         Ok(dones) => dones,
         Err(error) => return Err(of_work(error)),
     };
@@ -217,7 +219,8 @@ pub fn run_events<R: Threads + Wait + Sync, G: Gate + Sync>(
         let fault = first_refusal(shape, rule, &events);
         return Err(RunFault { event: 0, fault });
     };
-    run_events_on(rt, alloc, gate, workers, bench, events)
+    let mut threads = TrackedThreads::of(rt);
+    run_events_on(&mut threads, alloc, gate, workers, bench, events)
 }
 
 /// Returns the fault of a run that nobody stops.
@@ -231,9 +234,10 @@ fn of_run(fault: WatchFault) -> RunFault
     }
 }
 
-/// Does as `run_events`, on a new bench that is handed in: one with a clock of its own, for example.
+/// Does as `run_events`, on a new bench that is handed in: one with a clock of its own, for example. `threads` tells
+/// whether a start of a thread failed.
 pub fn run_events_on<R: Threads + Wait + Sync, G: Gate + Sync>(
-    rt: &R,
+    threads: &mut TrackedThreads<'_, R>,
     alloc: Global,
     gate: &G,
     workers: u32,
@@ -249,9 +253,10 @@ pub fn run_events_on<R: Threads + Wait + Sync, G: Gate + Sync>(
     ensures fault { IfErr result (λ f. IsEventFault bench.setup (map event_of events.items) f.event f.fault) }
     ensures open { G.always gate.now ≡ true → IfErr result (λ f. f.fault ≢ GateShut) }
     ensures alone { workers ≡ 1 → IfErr result (λ f. f.fault ≢ NoThread) }
+    ensures thread { has_failed threads.new.starts ≡ false → IfErr result (λ f. f.fault ≢ NoThread) }
 {
     match run_events_watched(
-        rt,
+        threads,
         alloc,
         gate,
         workers,

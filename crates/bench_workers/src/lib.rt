@@ -2,7 +2,9 @@
 //!
 //! - `run_events` returns the records of the pulses and the memories at the end.
 //! - `run_events_watched` does so before a watcher, which may stop the run.
-//! - `run_tasks` returns the results of the tasks of a pulse. `ThreadStarts` tells whether a start of a thread failed.
+//! - `run_tasks` returns the results of the tasks of a pulse.
+//!
+//! All but `run_events` take `TrackedThreads`: a runtime, and whether a start of a thread failed.
 //!
 //! ```
 //! use bench_workers::{Event, Open, run_events};
@@ -38,7 +40,7 @@ pub use event::{Event, Run, RunFault, RunRefusal};
 pub use gate::{Gate, Open};
 pub use opening::{OpenBench, open_pulse_of};
 pub use tasks::{MAX_WORKERS, run_tasks};
-pub use thread_starts::ThreadStarts;
+pub use thread_starts::{ThreadStarts, TrackedThreads};
 pub use watched::run_events_watched;
 pub use watcher::{Shown, Stop, WatchFault, Watcher};
 pub use work_error::WorkError;

@@ -12,6 +12,7 @@ ghost use Rattle.bench_workers.specs.inner.Going.{LeadsByEvent};
 use crate::engine::{pulse, stage};
 use crate::event::{Event, RunFault, RunRefusal};
 use crate::gate::Open;
+use crate::thread_starts::TrackedThreads;
 use bench_core::{Bench, OpenError};
 use std::alloc::Global;
 use std::sync::Wait;
@@ -55,7 +56,8 @@ fn go_on<R: Threads + Wait + Sync>(
             Ok(())
         }
         Event::Pulse(coins) => {
-            let ran = pulse(rt, alloc, &Open, 1, bench, coins)?;
+            let mut threads = TrackedThreads::of(rt);
+            let ran = pulse(&mut threads, alloc, &Open, 1, bench, coins)?;
             bench.reuse(ran.coins, ran.steps);
             let _few = bench.history(); // brings its bound
             Ok(())

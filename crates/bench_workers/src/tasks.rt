@@ -8,7 +8,7 @@ ghost use Rattle.bench_workers.specs.declared.tasks.TheConstants.{MAX_WORKERS};
 use crate::batch::run_batch;
 use crate::deal::deal;
 use crate::gate::Gate;
-use crate::thread_starts::ThreadStarts;
+use crate::thread_starts::{ThreadStarts, TrackedThreads};
 use crate::waiting::Waiting;
 use crate::work_error::WorkError;
 use crate::workers::{join_all, start_all};
@@ -22,27 +22,27 @@ use std::thread::{Scope, Threads};
 pub const MAX_WORKERS: u32 = 8;
 
 /// Runs each task once, by this many workers, each of which enters the gate once before its first task. One worker is
-/// the caller's thread; for more, that many threads are started, and all are joined before this answers. `starts` tells
+/// the caller's thread; for more, that many threads are started, and all are joined before this answers. `threads` tells
 /// whether a start failed.
 pub fn run_tasks<R: Threads + Wait + Sync, G: Gate + Sync>(
-    rt: &R,
+    threads: &mut TrackedThreads<'_, R>,
     alloc: Global,
     gate: &G,
     workers: u32,
     tasks: Vec<NodeTask>,
-    starts: &mut ThreadStarts,
 ) -> Result<Vec<NodeDone>, WorkError>
     requires some { 1 ≤ workers }
     requires few { workers ≤ MAX_WORKERS }
     ensures ran { IfOk result (λ dones. RanEach tasks.items dones.items) }
     ensures open { G.always gate.now ≡ true → IfErr result (λ e. e ≢ GateShut) }
     ensures alone { workers ≡ 1 → IfErr result (λ e. e ≢ NoThread) }
-    ensures thread { has_failed starts.new ≡ false → IfErr result (λ e. e ≢ NoThread) }
+    ensures thread { has_failed threads.new.starts ≡ false → IfErr result (λ e. e ≢ NoThread) }
 {
     if workers == 1 {
         return run_alone(alloc, gate, tasks);
     }
-    let before = *starts;
+    let rt = threads.runtime;
+    let before = threads.starts;
     let (given, after) = thread::scope(
         thread::scope_env(),
         rt,
@@ -58,7 +58,7 @@ pub fn run_tasks<R: Threads + Wait + Sync, G: Gate + Sync>(
             (given, starts)
         },
     );
-    *starts = after;
+    threads.starts = after;
     given
 }
 

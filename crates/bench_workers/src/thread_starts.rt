@@ -61,3 +61,25 @@ impl ThreadStarts {
         handle
     }
 }
+
+/// A runtime that starts threads, and whether a start failed.
+#[derive(Drop)]
+pub struct TrackedThreads<'a, R> {
+    pub runtime: &'a R,
+    pub starts: ThreadStarts,
+}
+
+impl<'a, R> TrackedThreads<'a, R> {
+    ghost use Rattle.std.specs.Prelude.{◌≡◌, false};
+    ghost use Rattle.bench_workers.specs.ThreadStarts.{has_failed};
+
+    /// Returns the runtime before the first start.
+    pub fn of(runtime: &'a R) -> TrackedThreads<'a, R>
+        ensures { has_failed result.starts ≡ false }
+    {
+        TrackedThreads {
+            runtime,
+            starts: ThreadStarts::new(),
+        }
+    }
+}

@@ -1,5 +1,5 @@
 //! The run of a list of events before a watcher.
-ghost use Rattle.std.specs.Prelude.{◌≡◌, ◌≢◌, ◌≤◌, ◌<◌, ◌++◌, ◌∷◌, [], List, true, None, IfOk, IfErr, OnOk, length, map, vec_len, vec_capacity};
+ghost use Rattle.std.specs.Prelude.{◌≡◌, ◌≢◌, ◌≤◌, ◌<◌, ◌++◌, ◌∷◌, [], List, true, false, None, IfOk, IfErr, OnOk, length, map, vec_len, vec_capacity};
 ghost use Rattle.bench_core.specs.declared.limits.TheConstants.{MAX_ENTRIES};
 ghost use Rattle.bench_core.specs.State.{new_state};
 ghost use Rattle.bench_workers.specs.declared.event.RunRefusal.TheVariants.{GateShut, NoThread};
@@ -7,12 +7,14 @@ ghost use Rattle.bench_workers.specs.declared.tasks.TheConstants.{MAX_WORKERS};
 ghost use Rattle.bench_workers.specs.declared.watched.Halt.TheVariants.{Refused};
 ghost use Rattle.bench_workers.specs.Events.{Pulse, event_of};
 ghost use Rattle.bench_workers.specs.Runs.{IsRun};
+ghost use Rattle.bench_workers.specs.ThreadStarts.{has_failed};
 ghost use Rattle.bench_workers.specs.Watching.{EndsAt, IsNot, Seen, Watched};
 ghost use Rattle.bench_workers.specs.inner.Watching.{IsHalted, IsWatched};
 
 use crate::engine::{memories_of, pulse, stage};
 use crate::event::{Event, Run, RunFault, RunRefusal};
 use crate::gate::Gate;
+use crate::thread_starts::TrackedThreads;
 use crate::watcher::{Shown, Stop, WatchFault, Watcher};
 use bench_core::{Bench, PulseRecord, Ran};
 use std::alloc::Global;
@@ -64,7 +66,7 @@ fn keep(records: &mut Vec<PulseRecord>, told: PulseRecord)
 
 /// Runs a pulse, shows it and keeps its record.
 fn show_pulse<R: Threads + Wait + Sync, G: Gate + Sync, S, K: Watcher<S>>(
-    rt: &R,
+    threads: &mut TrackedThreads<'_, R>,
     alloc: Global,
     gate: &G,
     workers: u32,
@@ -83,8 +85,9 @@ fn show_pulse<R: Threads + Wait + Sync, G: Gate + Sync, S, K: Watcher<S>>(
         bench.new watcher.new sink.new) }
     ensures open { G.always gate.now ≡ true → IfErr result (λ e. e ≢ Refused GateShut) }
     ensures alone { workers ≡ 1 → IfErr result (λ e. e ≢ Refused NoThread) }
+    ensures thread { has_failed threads.new.starts ≡ false → IfErr result (λ e. e ≢ Refused NoThread) }
 {
-    let Ran { told, coins, steps } = match pulse(rt, alloc, gate, workers, bench, coins) {
+    let Ran { told, coins, steps } = match pulse(threads, alloc, gate, workers, bench, coins) {
         Ok(ran) => ran,
         Err(refusal) => return Err(Halt::Refused(refusal)),
     };
@@ -111,7 +114,7 @@ fn show_pulse<R: Threads + Wait + Sync, G: Gate + Sync, S, K: Watcher<S>>(
 
 /// Does one event, shows its pulse and keeps the record.
 fn apply<R: Threads + Wait + Sync, G: Gate + Sync, S, K: Watcher<S>>(
-    rt: &R,
+    threads: &mut TrackedThreads<'_, R>,
     alloc: Global,
     gate: &G,
     workers: u32,
@@ -131,6 +134,7 @@ fn apply<R: Threads + Wait + Sync, G: Gate + Sync, S, K: Watcher<S>>(
         bench.new watcher.new sink.new) }
     ensures open { G.always gate.now ≡ true → IfErr result (λ e. e ≢ Refused GateShut) }
     ensures alone { workers ≡ 1 → IfErr result (λ e. e ≢ Refused NoThread) }
+    ensures thread { has_failed threads.new.starts ≡ false → IfErr result (λ e. e ≢ Refused NoThread) }
 {
     match event {
         Event::Stage(change) => {
@@ -142,7 +146,7 @@ fn apply<R: Threads + Wait + Sync, G: Gate + Sync, S, K: Watcher<S>>(
         }
         Event::Pulse(coins) => {
             show_pulse(
-                rt, alloc, gate, workers, bench, records, coins, watcher, sink,
+                threads, alloc, gate, workers, bench, records, coins, watcher, sink,
             )?;
             let _few = bench.history(); // brings its bound
             Ok(())
@@ -152,7 +156,7 @@ fn apply<R: Threads + Wait + Sync, G: Gate + Sync, S, K: Watcher<S>>(
 
 /// Does as `run_events_on`, before a watcher that is shown each closed pulse, and may stop the run.
 pub fn run_events_watched<R: Threads + Wait + Sync, G: Gate + Sync, S, K: Watcher<S>>(
-    rt: &R,
+    threads: &mut TrackedThreads<'_, R>,
     alloc: Global,
     gate: &G,
     workers: u32,
@@ -173,6 +177,7 @@ pub fn run_events_watched<R: Threads + Wait + Sync, G: Gate + Sync, S, K: Watche
         watcher.new sink.new) }
     ensures open { G.always gate.now ≡ true → IfErr result (IsNot GateShut) }
     ensures alone { workers ≡ 1 → IfErr result (IsNot NoThread) }
+    ensures thread { has_failed threads.new.starts ≡ false → IfErr result (IsNot NoThread) }
 {
     let fault = RunRefusal::Memory;
     let nodes = bench.shape().nodes();
@@ -182,7 +187,7 @@ pub fn run_events_watched<R: Threads + Wait + Sync, G: Gate + Sync, S, K: Watche
     let mut place = 0;
     for event in events {
         match apply(
-            rt,
+            threads,
             alloc,
             gate,
             workers,

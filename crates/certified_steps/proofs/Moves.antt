@@ -1,7 +1,7 @@
 -- Places that are equal, and the counts of a let.
 use Rattle.std.proofs.Common.{◌≡◌, ℕ, Option, Some, None, List, ◌∷◌, refl, ap, subst}
 use Rattle.rule_syntax.specs.declared.syntax.Term.{Term}
-use Rattle.rule_syntax.specs.declared.syntax.Term.TheVariants.{Number, Nodes, Faults, Modulus, Me, Coin, LoopNode, Local, Word, Message', Binary', Logical', Not', Choice', Count', Least'}
+use Rattle.rule_syntax.specs.declared.syntax.Term.TheVariants.{Number, Nodes, Faults, Modulus, Me, Coin, LoopNode, Local, Word, Message', Binary', Logical', Not', Choice', Count', Least', Sorted'}
 use Rattle.rule_paths.specs.Relations.{Expression, Relation, Numbers, RelationHolds}
 use Rattle.rule_paths.specs.Stores.{Store, Count}
 use Rattle.rule_paths.specs.Paths.{Place, place_past, with_let_count}
@@ -30,6 +30,7 @@ no_count (Logical' c p a q b) s k cs h = refl
 no_count (Not' p a) s k cs h = refl
 no_count (Choice' p t q a r b) s k cs h = refl
 no_count (Least' p t) s k cs h = refl
+no_count (Sorted' p i q t) s k cs h = refl
 no_count (Count' p t) s k cs h = absurd (let never : Some t ≡ None = h in cc)
 
 pub one_count : (e t : Term) (s : Store) (k : ℕ) (cs : List Count) → counted_test e ≡ Some t
@@ -49,6 +50,7 @@ one_count (Logical' c p a q b) t s k cs h = absurd (let never : None ≡ Some t 
 one_count (Not' p a) t s k cs h = absurd (let never : None ≡ Some t = h in cc)
 one_count (Choice' p u q a r b) t s k cs h = absurd (let never : None ≡ Some t = h in cc)
 one_count (Least' p u) t s k cs h = absurd (let never : None ≡ Some t = h in cc)
+one_count (Sorted' p i q u) t s k cs h = absurd (let never : None ≡ Some t = h in cc)
 one_count (Count' p u) t s k cs h =
     let same : u ≡ t = some_is h in
     ap (λ (x : Term). let c : Count = record { variable = k; test = x; store = s } in c ∷ cs) same

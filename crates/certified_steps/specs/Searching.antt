@@ -1,7 +1,7 @@
 -- What a place of a search has to show.
 use Rattle.std.specs.Prelude.{◌≡◌, ℕ, Option, Some, None}
 use Rattle.rule_syntax.specs.declared.syntax.Term.{Term}
-use Rattle.rule_syntax.specs.declared.syntax.Term.TheVariants.{Number, Nodes, Faults, Modulus, Me, Coin, LoopNode, Local, Word, Message', Binary', Logical', Not', Choice', Count', Least'}
+use Rattle.rule_syntax.specs.declared.syntax.Term.TheVariants.{Number, Nodes, Faults, Modulus, Me, Coin, LoopNode, Local, Word, Message', Binary', Logical', Not', Choice', Count', Least', Sorted'}
 use Rattle.rule_syntax.specs.declared.syntax.Assignment.{Assignment}
 use Rattle.linear_certificates.specs.declared.known.Known.{Known}
 use Rattle.linear_certificates.specs.Facts.{AllHold}
@@ -78,6 +78,7 @@ counted_test (Not' p a) = None
 counted_test (Choice' p t q a r b) = None
 counted_test (Count' p t) = Some t
 counted_test (Least' p t) = None
+counted_test (Sorted' p k q t) = None
 
 pub record IsAssigned (made : Assigned) (a : Assignment) (s : Store) (k : ℕ) : Type 0 where
   pub facts : Implies (all_stored a (written_store s) k).facts made.facts

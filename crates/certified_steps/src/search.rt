@@ -85,7 +85,7 @@ fn count_of<'a>(e: &'a Term) -> Option<&'a Term>
         Term::Count(test) => Some(test),
         Term::Number(_) | Term::LoopNode(_) | Term::Local(_) | Term::Word(_) => None,
         Term::Nodes | Term::Faults | Term::Modulus | Term::Me | Term::Coin => None,
-        Term::Message(_) | Term::Not(_) | Term::Least(_) => None,
+        Term::Message(_) | Term::Not(_) | Term::Least(_) | Term::Sorted(_, _) => None,
         Term::Binary(_, _, _) | Term::Logical(_, _, _) | Term::Choice(_, _, _) => None,
     }
 }

@@ -7,7 +7,7 @@ use Rattle.rule_text.specs.Errors.{error_name}
 use Rattle.claim_text.specs.Errors.{claim_error_name}
 use Rattle.certified_steps.specs.declared.errors.Unproved.{Unproved}
 use Rattle.certified_steps.specs.declared.errors.Unproved.TheVariants as whys
-use Rattle.step_searches.specs.declared.covered.Uncovered.TheVariants.{Least, Loop, Receiver, Name}
+use Rattle.step_searches.specs.declared.covered.Uncovered.TheVariants.{Least, Sorted, Loop, Receiver, Name}
 use Rattle.claim_proofs.specs.declared.reader.CertificateError.{CertificateError}
 use Rattle.claim_proofs.specs.declared.reader.CertificateError.TheVariants.{NotText, End, Word, TooDeep}
 use Rattle.claim_proofs.specs.declared.proving.Answer.{Answer}
@@ -40,6 +40,7 @@ reason whys.Memory = codes "memory ran out"
 reason (whys.Uncovered Loop) = codes "the rule has a loop"
 reason (whys.Uncovered Receiver) = codes "the rule sends to one node"
 reason (whys.Uncovered Least) = codes "the rule has a least message"
+reason (whys.Uncovered Sorted) = codes "the rule sorts numbers"
 reason (whys.Uncovered Name) = codes "a word or a free name isn't one of the step's"
 reason whys.Silent = codes "the rule sends nothing on some path"
 reason whys.TooMany = codes "there are too many variables"

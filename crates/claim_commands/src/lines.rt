@@ -30,6 +30,7 @@ fn reason(why: Unproved) -> &'static str
         Unproved::Uncovered(Uncovered::Loop) => "the rule has a loop",
         Unproved::Uncovered(Uncovered::Receiver) => "the rule sends to one node",
         Unproved::Uncovered(Uncovered::Least) => "the rule has a least message",
+        Unproved::Uncovered(Uncovered::Sorted) => "the rule sorts numbers",
         Unproved::Uncovered(Uncovered::Name) => "a word or a free name isn't one of the step's",
         Unproved::Silent => "the rule sends nothing on some path",
         Unproved::TooMany => "there are too many variables",

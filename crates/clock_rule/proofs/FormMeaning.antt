@@ -5,11 +5,11 @@ use Rattle.rule_syntax.specs.declared.syntax.Sizes.{Sizes}
 use Rattle.rule_syntax.specs.declared.syntax.Assignment.{Assignment}
 use Rattle.rule_syntax.specs.declared.syntax.Assignment.TheVariants.{One, Also'}
 use Rattle.rule_syntax.specs.declared.syntax.Term.{Term}
-use Rattle.rule_syntax.specs.declared.syntax.Term.TheVariants.{Number, Nodes, Faults, Modulus, Me, Coin, LoopNode, Local, Word, Message', Binary', Logical', Not', Choice', Count', Least'}
+use Rattle.rule_syntax.specs.declared.syntax.Term.TheVariants.{Number, Nodes, Faults, Modulus, Me, Coin, LoopNode, Local, Word, Message', Binary', Logical', Not', Choice', Count', Least', Sorted'}
 use Rattle.rule_syntax.specs.declared.syntax.Statement.{Statement}
 use Rattle.rule_syntax.specs.declared.syntax.Statement.TheVariants.{Nothing, Then', Let', Assign, If', For', SendAll, SendTo}
-use Rattle.rule_nodes.specs.Meaning.{NodeState, apply_operator, combine, bit_of, truth, count_below, least_below, word_at, message_from, value, with_local, assigned, all_assigned, with_sent, sent_below, each_below, after, initial_state, pulse}
-use Rattle.rule_text.specs.Forms.{TermForm, number, nodes, faults, modulus, me, coin, loop_node, local, word, message, binary, logical, inverse, choice, count, least, AssignmentForm, one, also, StatementForm, nothing, sequence, let_in, assign, branch, each, send_all, send_to, term_form, assignment_form, statement_form}
+use Rattle.rule_nodes.specs.Meaning.{NodeState, apply_operator, combine, bit_of, truth, count_below, least_below, numbers_of_nodes, in_order, number_at_place, word_at, message_from, value, with_local, assigned, all_assigned, with_sent, sent_below, each_below, after, initial_state, pulse}
+use Rattle.rule_text.specs.Forms.{TermForm, number, nodes, faults, modulus, me, coin, loop_node, local, word, message, binary, logical, inverse, choice, count, least, sorted, AssignmentForm, one, also, StatementForm, nothing, sequence, let_in, assign, branch, each, send_all, send_to, term_form, assignment_form, statement_form}
 
 -- ---- terms
 
@@ -33,6 +33,8 @@ form_value (choice t a b) z env J u =
 form_value (count t) z env J u = count_below z.nodes (λ j. form_value t z env (J ++ j ∷ []) u)
 form_value (least t) z env J u =
     least_below z.nodes (λ j. form_value t z env (J ++ j ∷ []) u) (λ j. message_from z env j)
+form_value (sorted k e) z env J u =
+    number_at_place (form_value k z env J u) (in_order (numbers_of_nodes z.nodes (λ j. form_value e z env (J ++ j ∷ []) u)))
 
 count_same : (n : ℕ) (f g : ℕ → ℕ) → ((j : ℕ) → f j ≡ g j) → count_below n f ≡ count_below n g
 count_same zero f g h = refl
@@ -42,6 +44,10 @@ least_same : (n : ℕ) (f g heard : ℕ → ℕ) → ((j : ℕ) → f j ≡ g j)
 least_same zero f g heard h = refl
 least_same (suc n) f g heard h =
     ap₂ (λ (x y : ℕ). if truth y then min (heard n) x else x) (least_same n f g heard h) (h n)
+
+numbers_same : (n : ℕ) (f g : ℕ → ℕ) → ((j : ℕ) → f j ≡ g j) → numbers_of_nodes n f ≡ numbers_of_nodes n g
+numbers_same zero f g h = refl
+numbers_same (suc n) f g h = ap₂ (λ (xs : List ℕ) (y : ℕ). xs ++ y ∷ []) (numbers_same n f g h) (h n)
 
 chosen_same : (t s a b c d : ℕ) → t ≡ s → a ≡ b → c ≡ d
     → (if truth t then a else c) ≡ (if truth s then b else d)
@@ -71,6 +77,10 @@ value_same (Count' p t) z env J u = count_same z.nodes (λ j. value t z env (J +
 value_same (Least' p t) z env J u = least_same z.nodes (λ j. value t z env (J ++ j ∷ []) u)
     (λ j. form_value (term_form t) z env (J ++ j ∷ []) u) (λ j. message_from z env j)
     (λ j. value_same t z env (J ++ j ∷ []) u)
+value_same (Sorted' p k q e) z env J u =
+    ap₂ (λ (x : ℕ) (ys : List ℕ). number_at_place x (in_order ys)) (value_same k z env J u)
+    (numbers_same z.nodes (λ j. value e z env (J ++ j ∷ []) u)
+    (λ j. form_value (term_form e) z env (J ++ j ∷ []) u) (λ j. value_same e z env (J ++ j ∷ []) u))
 
 -- ---- statements
 

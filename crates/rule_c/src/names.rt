@@ -3,7 +3,7 @@
 use std::alloc::{AllocError, Global};
 
 /// Names in small letters that C, its compilers or the function itself use.
-const TAKEN: [&str; 55] = [
+const TAKEN: [&str; 57] = [
     "alignas",
     "alignof",
     "asm",
@@ -25,12 +25,14 @@ const TAKEN: [&str; 55] = [
     "goto",
     "i386",
     "inline",
+    "insert_number",
     "int",
     "linux",
     "long",
     "memory",
     "modulo",
     "nullptr",
+    "number_at",
     "quotient",
     "register",
     "restrict",
@@ -69,7 +71,7 @@ pub(crate) const OWN: &str = "x_";
 pub(crate) struct Names {
     /// The words of the memory by their places, the clock first.
     pub(crate) words: Vec<String>,
-    /// The names after `let`, `for`, `count` and `least`, in the order of the text.
+    /// The names after `let`, `for`, `count`, `least` and `sorted`, in the order of the text.
     pub(crate) made: Vec<String>,
 }
 
@@ -83,6 +85,10 @@ enum Expected {
     AfterLeast,
     /// The colon after this name: without it, `least` is a name.
     LeastColon,
+    /// The bracket before the place of `sorted`.
+    SortedPlace,
+    /// The rest of that place, in this many brackets.
+    InPlace(usize),
 }
 
 fn is_letter(letter: char) -> bool {
@@ -136,6 +142,7 @@ fn expected_after(word: &str) -> Expected {
         "let" | "for" | "count" => Expected::Made,
         "state" => Expected::Words,
         "least" => Expected::AfterLeast,
+        "sorted" => Expected::SortedPlace,
         _ => Expected::Nothing,
     }
 }
@@ -166,7 +173,19 @@ fn add_word(
             let _no_name = names.made.pop();
             Ok(expected_after(word))
         }
+        Expected::SortedPlace => Ok(Expected::InPlace(1)),
+        Expected::InPlace(depth) => Ok(in_place(depth, word)),
         Expected::Nothing => Ok(expected_after(word)),
+    }
+}
+
+/// Returns what comes after a word or sign of the place of `sorted`. A place makes no name: it is a constant.
+fn in_place(depth: usize, word: &str) -> Expected {
+    match word {
+        "[" => Expected::InPlace(depth.saturating_add(1)),
+        "]" if depth <= 1 => Expected::Made,
+        "]" => Expected::InPlace(depth.saturating_sub(1)),
+        _ => Expected::InPlace(depth),
     }
 }
 
@@ -189,9 +208,12 @@ fn add_after_least(alloc: Global, names: &mut Names, word: &str) -> Result<Expec
 fn past_line(expected: Expected) -> Expected {
     match expected {
         Expected::Words => Expected::Nothing,
-        Expected::Nothing | Expected::Made | Expected::AfterLeast | Expected::LeastColon => {
-            expected
-        }
+        Expected::Nothing
+        | Expected::Made
+        | Expected::AfterLeast
+        | Expected::LeastColon
+        | Expected::SortedPlace
+        | Expected::InPlace(_) => expected,
     }
 }
 

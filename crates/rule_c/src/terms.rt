@@ -171,6 +171,7 @@ fn names_made(term: &Term) -> usize {
     match term {
         Term::Message(a) | Term::Not(a) => names_made(a),
         Term::Count(a) | Term::Least(a) => names_made(a).saturating_add(1),
+        Term::Sorted(_, item) => names_made(item).saturating_add(1),
         Term::Binary(_, a, b) | Term::Logical(_, a, b) => {
             names_made(a).saturating_add(names_made(b))
         }
@@ -250,6 +251,14 @@ fn aggregate_front(term: &Term) -> &'static str {
     }
 }
 
+/// Returns the places of nodes with one more.
+fn with_node<'a>(scope: Scope<'a>, loops: &'a [usize]) -> Scope<'a> {
+    Scope {
+        lets: scope.lets,
+        loops,
+    }
+}
+
 /// Adds the expression of a term at a place.
 pub(crate) fn add_term(
     alloc: Global,
@@ -300,11 +309,15 @@ pub(crate) fn add_term(
         Term::Count(a) | Term::Least(a) => {
             let name = add_aggregate(page, aggregate_front(term))?;
             let loops = within(alloc, scope.loops, name)?;
-            let inner = Scope {
-                lets: scope.lets,
-                loops: &loops,
-            };
-            add_term(alloc, page, a, inner, Place::Condition)?;
+            add_term(alloc, page, a, with_node(scope, &loops), Place::Condition)?;
+            page.add(")")?;
+        }
+        Term::Sorted(at, item) => {
+            page.add("SORTED(")?;
+            add_term(alloc, page, at, scope, Place::Whole)?;
+            let name = add_aggregate(page, ", ")?;
+            let loops = within(alloc, scope.loops, name)?;
+            add_term(alloc, page, item, with_node(scope, &loops), Place::Whole)?;
             page.add(")")?;
         }
         _ => add_leaf(page, term, scope)?,

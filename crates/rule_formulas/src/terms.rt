@@ -271,7 +271,7 @@ fn counting(alloc: Global, k: u32) -> Result<Formed, Unformed>
     fresh(alloc, facts, k, is)
 }
 
-/// Returns a least message, of which nothing is said.
+/// Returns a number of which nothing is said, as a least message.
 fn any_number(alloc: Global, k: u32) -> Result<Formed, Unformed>
     ensures { IfOk result (λ m. IsFormed m (paths.any_number k)) }
 {
@@ -363,5 +363,6 @@ pub fn form<'a>(
         }
         Term::Count(_test) => counting(alloc, k),
         Term::Least(_test) => any_number(alloc, k),
+        Term::Sorted(_place, _item) => any_number(alloc, k),
     }
 }

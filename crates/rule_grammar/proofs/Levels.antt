@@ -166,6 +166,7 @@ sign_opening signs.Mail = 0
 sign_opening signs.Open = 0
 sign_opening signs.Not = 4
 sign_opening signs.Count = 7
+sign_opening signs.Sorted = 7
 sign_opening a = 8
 
 abbrev pub opening : Kind → ℕ
@@ -204,6 +205,9 @@ begins (s.counted {ts = ts} {c = c} {n = n} {d = d} is_count new colon body) =
     first_is opening 7 (Mark signs.Count) c (n ∷ d ∷ ts) is_count (omega arith)
 begins (s.least_of {ts = ts} {l = l} {n = n} {d = d} is_least new colon body) =
     first_is opening 7 (Named is_least.name) l (n ∷ d ∷ ts) is_least.named (omega arith)
+begins (s.sorted_at {ks = ks} {ts = ts} {w = w} {o = o} {c = c} {n = n} {d = d} is_sorted opens k fixed closes new colon
+    numbers) =
+    first_is opening 7 (Mark signs.Sorted) w (o ∷ (ks ++ (c ∷ n ∷ d ∷ ts))) is_sorted (omega arith)
 begins (s.joined {kind = kind} {xs = xs} {ys = ys} o d e other) =
     first_more opening (rank (s.chain kind)) (rank (s.chain kind)) xs (o ∷ ys) (omega arith) (begins d)
 begins (s.not_so {ts = ts} {o = o} is_not d) = first_is opening 4 (Mark signs.Not) o ts is_not (omega arith)
@@ -271,6 +275,7 @@ apart (s.alone {level = level} d) low rest e = let less = tighter_rank level in 
 apart (s.chosen d is_if test is_else other) low rest e = absurd (omega arith)
 apart (s.counted is_count new colon d) low rest e = absurd (omega arith)
 apart (s.least_of is_least new colon d) low rest e = absurd (omega arith)
+apart (s.sorted_at is_sorted opens k fixed closes new colon numbers) low rest e = absurd (omega arith)
 apart (s.joined {kind = kind} {xs = xs} {ys = ys} {joint = joint} o d is other) low rest e =
     rw (append_assoc xs (o ∷ ys) rest) (apart d low (o ∷ (ys ++ rest)) (joint_nameless kind o.kind joint is))
 apart (s.not_so {ts = ts} {o = o} is_not d) low rest e = first_sign signs.Not o (ts ++ rest) is_not
@@ -311,6 +316,20 @@ no_aggregate {source} {level} {names} {ts} d low rest e =
     let us = ts ++ rest in
     ap (found_first source.text us) (first_no opening (rank level) signs.Count us (starts d rest) (omega arith))
     ∙ ap found_later (no_least source.text us (apart d low rest e))
+
+-- nor `sorted`
+pub no_sorted : {source : SourceForm} {level : s.Level} {names : List Entry} {ts : List Token} {a : TermForm}
+    → s.IsTerm source level names ts a → rank level ≤ 6 → (rest : List Token)
+    → rest_after signs.Sorted (ts ++ rest) ≡ None
+no_sorted {source} {level} {names} {ts} d low rest =
+    first_no opening (rank level) signs.Sorted (ts ++ rest) (starts d rest) (omega arith)
+
+-- `sorted` is no aggregate with a test
+pub sorted_first : (text : List ℕ) (t : Token) (ts : List Token) → s.IsSign signs.Sorted t
+    → aggregate_in text (t ∷ ts) ≡ None
+sorted_first text t ts h =
+    ap (found_first text (t ∷ ts)) (no_sign signs.Count (Mark signs.Sorted) t ts h refl)
+    ∙ ap found_later (no_least text (t ∷ ts) (first_sign signs.Sorted t ts h))
 
 pub count_first : (text : List ℕ) (t : Token) (ts : List Token) → s.IsSign signs.Count t
     → aggregate_in text (t ∷ ts) ≡ Some (aggregates.Count, ts)

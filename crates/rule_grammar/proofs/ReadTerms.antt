@@ -1,6 +1,6 @@
 -- A term that is spelled is read.
 use Rattle.std.proofs.Common.{◌≡◌, inl, inr, ℕ, zero, suc, cond, List, [], ◌∷◌, ◌++◌, length, refl, sym, ap, subst, ◌∙◌, arith, append_assoc}
-use Rattle.std.specs.Prelude.{Bool, option_map, Option, Some, None, Ok, Err}
+use Rattle.std.specs.Prelude.{Bool, true, option_map, Option, Some, None, Ok, Err}
 use Rattle.std.proofs.lemmas.Bool.{lt-leb}
 use Rattle.rule_syntax.specs.declared.syntax.Comparison.{Comparison}
 use Rattle.rule_text.specs.declared.errors.RuleError.TheVariants.{TooDeep, TooLong}
@@ -16,20 +16,18 @@ use Rattle.rule_text.specs.declared.scope.Entry.{Entry}
 use Rattle.rule_text.specs.declared.scope.Maker.{Maker}
 use Rattle.rule_text.specs.declared.scope.Maker.TheVariants as makers
 use Rattle.rule_text.specs.declared.scope.TheConstants.{MAX_NAMES}
-use Rattle.rule_text.specs.declared.aggregates.Aggregate.{Aggregate}
-use Rattle.rule_text.specs.declared.aggregates.Aggregate.TheVariants as aggregates
 use Rattle.rule_text.specs.declared.joints.Joint.{Joint}
 use Rattle.rule_text.specs.declared.joints.Chain.{Chain}
 use Rattle.rule_text.specs.declared.joints.Chain.TheVariants as chains
 use Rattle.rule_text.specs.declared.terms.Grade.TheVariants.{Whole, Inverse}
 use Rattle.rule_text.specs.declared.terms.TheConstants.{MAX_PARTS}
-use Rattle.rule_text.specs.Forms.{TermForm}
+use Rattle.rule_text.specs.Forms.{TermForm, is_constant}
 use Rattle.rule_text.specs.Tables.{SourceForm, table_at, table_term}
 use Rattle.rule_text.specs.Scopes.{rule_error_at, meaning_of, scope_entry, next_meaning, added, named_entry_by, named_entry, new_name}
-use Rattle.rule_text.specs.Terms.{joint_of, join, named_term, leaf_of, aggregated, aggregate_read, Reader, Inner, leaf, named_leaf, leaf_by, leaf_read, lookup_read, named_atom, marked_atom, atom, chain_step, chain_rest, compare_read, inverse_read, operand_read, chain_read, whole_read, part, term_read}
+use Rattle.rule_text.specs.Terms.{joint_of, join, named_term, leaf_of, item_read, place_read, Reader, Inner, leaf, named_leaf, leaf_by, leaf_read, lookup_read, named_atom, marked_atom, atom, chain_step, chain_rest, compare_read, inverse_read, operand_read, chain_read, whole_read, part, term_read}
 use Rattle.rule_text.specs.Spelling as s
-use Rattle.rule_grammar.proofs.Readings.{Gives, found, bind, by_some, by_none, IsClear, Clear, limit_in, after_sign, wanted_sign, first_no}
-use Rattle.rule_grammar.proofs.Levels.{Ends, ends_tighter, ends_at, ends_clear, no_if, no_joint, joint_ends, no_comparison, comparison_ends, ends_nameless, sign_nameless, no_aggregate, count_first, least_first, opening, starts, term_clear}
+use Rattle.rule_grammar.proofs.Readings.{Gives, found, bind, by_some, by_none, by_true, IsClear, Clear, limit_in, after_sign, wanted_sign, first_no}
+use Rattle.rule_grammar.proofs.Levels.{Ends, ends_tighter, ends_at, ends_clear, no_if, no_joint, joint_ends, no_comparison, comparison_ends, ends_nameless, sign_nameless, no_aggregate, no_sorted, sorted_first, count_first, least_first, opening, starts, term_clear}
 
 module _ (text : List ℕ) where
   -- ---- names
@@ -165,7 +163,8 @@ module _ (source : SourceForm) where
       → s.IsTerm source (s.tighter level) names ts a → Plain (s.tighter level) names ts a → Holds level names ts a
   alone_holds s.whole names ts a d h = λ room rest ends.
       by_none _ _ (no_aggregate d (omega arith) rest (ends_nameless s.whole rest ends))
-      (bind _ (h room rest (ends_tighter s.whole rest ends)) (by_none _ _ (no_if rest ends) (found refl)))
+      (by_none _ _ (no_sorted d (omega arith) rest)
+      (bind _ (h room rest (ends_tighter s.whole rest ends)) (by_none _ _ (no_if rest ends) (found refl))))
   alone_holds (s.chain kind) names ts a d h = λ room rest y ends k.
       bind _ (operand_of kind names ts a h room rest ends) (k MAX_LINE_TOKENS)
   alone_holds s.inverted names ts a d h = λ room rest ends.
@@ -218,14 +217,25 @@ module _ (source : SourceForm) where
 
   -- ---- aggregates
 
-  -- what follows the word of an aggregate
-  aggregate_gives : (kind : Aggregate) (names more : List Entry) (n d : Token) (ts : List Token) (a : TermForm)
+  -- the name of a node, a colon and a term
+  item_gives : (names more : List Entry) (n d : Token) (ts : List Token) (a : TermForm)
       → s.IsNew source.text makers.Loop names n more → s.IsSign signs.Colon d → s.IsTerm source s.whole more ts a
       → Plain s.whole more ts a → (room : ℕ) (rest : List Token) → Ends s.whole rest
-      → Gives (aggregate_read (part room source) source names kind (n ∷ d ∷ (ts ++ rest))) (aggregated kind a, rest)
-  aggregate_gives kind names more n d ts a new colon da h room rest ends =
+      → Gives (item_read (part room source) source names (n ∷ d ∷ (ts ++ rest))) (a, rest)
+  item_gives names more n d ts a new colon da h room rest ends =
       bind _ (new_gives source.text makers.Loop names more n (d ∷ (ts ++ rest)) new)
-      (bind _ (wanted_sign signs.Colon d (ts ++ rest) colon) (bind _ (inner_gives da h room rest ends) (found refl)))
+      (bind _ (wanted_sign signs.Colon d (ts ++ rest) colon) (inner_gives da h room rest ends))
+
+  -- a constant in square brackets
+  place_gives : (names : List Entry) (o c : Token) (ks : List Token) (k : TermForm) → s.IsSign signs.OpenSquare o
+      → s.IsTerm source s.whole names ks k → is_constant k ≡ true → s.IsSign signs.CloseSquare c
+      → Plain s.whole names ks k → (room : ℕ) (rest : List Token)
+      → Gives (place_read (part room source) names (o ∷ (ks ++ (c ∷ rest)))) (k, rest)
+  place_gives names o c ks k opens dk fixed closes h room rest =
+      bind _ (wanted_sign signs.OpenSquare o (ks ++ (c ∷ rest)) opens)
+      (bind _ (inner_gives dk h room (c ∷ rest)
+      (ends_at s.whole (Mark signs.CloseSquare) c rest closes (omega arith)))
+      (bind _ (by_true _ _ fixed (found refl)) (bind _ (wanted_sign signs.CloseSquare c rest closes) (found refl))))
 
   -- ---- every term: a chain by what it is when it goes on, since its operators group from the left
 
@@ -239,21 +249,32 @@ module _ (source : SourceForm) where
       let test = ts ++ (e ∷ others) in
       rw (append_assoc xs (i ∷ (ts ++ (e ∷ ys))) rest, append_assoc ts (e ∷ ys) rest)
       (by_none _ _ (no_aggregate dx (omega arith) (i ∷ test) (sign_nameless signs.If i test is_if))
+      (by_none _ _ (no_sorted dx (omega arith) (i ∷ test))
       (bind _ (plain dx (holds dx) room (i ∷ test)
       (ends_at (s.chain chains.Either) (Mark signs.If) i test is_if (omega arith)))
       (by_some _ _ (after_sign signs.If i test is_if)
       (bind _ (plain dt (holds dt) room (e ∷ others)
       (ends_at (s.chain chains.Either) (Mark signs.Else) e others is_else (omega arith)))
       (bind _ (wanted_sign signs.Else e others is_else)
-      (bind _ (inner_gives dy (holds dy) room rest ends) (found refl)))))))
+      (bind _ (inner_gives dy (holds dy) room rest ends) (found refl))))))))
   holds (s.counted {names = names} {more = more} {ts = ts} {c = c} {n = n} {d = d} is_count new colon da) =
       λ room rest ends.
       by_some _ _ (count_first source.text c (n ∷ d ∷ (ts ++ rest)) is_count)
-      (aggregate_gives aggregates.Count names more n d ts _ new colon da (holds da) room rest ends)
+      (bind _ (item_gives names more n d ts _ new colon da (holds da) room rest ends) (found refl))
   holds (s.least_of {names = names} {more = more} {ts = ts} {l = l} {n = n} {d = d} is_least new colon da) =
       λ room rest ends.
       by_some _ _ (least_first source.text makers.Loop names more l n (d ∷ (ts ++ rest)) is_least new)
-      (aggregate_gives aggregates.Least names more n d ts _ new colon da (holds da) room rest ends)
+      (bind _ (item_gives names more n d ts _ new colon da (holds da) room rest ends) (found refl))
+  holds (s.sorted_at {names = names} {more = more} {ks = ks} {ts = ts} {w = w} {o = o} {c = c} {n = n} {d = d} is_sorted
+      opens dk fixed closes new colon da) =
+      λ room rest ends.
+      let numbers = n ∷ d ∷ (ts ++ rest) in
+      let behind = o ∷ (ks ++ (c ∷ numbers)) in
+      rw (append_assoc ks (c ∷ n ∷ d ∷ ts) rest)
+      (by_none _ _ (sorted_first source.text w behind is_sorted)
+      (by_some _ _ (after_sign signs.Sorted w behind is_sorted)
+      (bind _ (place_gives names o c ks _ opens dk fixed closes (holds dk) room numbers)
+      (bind _ (item_gives names more n d ts _ new colon da (holds da) room rest ends) (found refl)))))
   holds (s.joined {kind = kind} {names = names} {xs = xs} {ys = ys} {a = a} {b = b} {joint = joint} o dx e dy) =
       λ room rest y ends k.
       let ending = joint_ends kind o (ys ++ rest) joint e in

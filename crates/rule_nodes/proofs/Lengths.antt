@@ -27,7 +27,7 @@ use Rattle.rule_nodes.specs.declared.numbers.Tally.TheVariants.{HowMany, LeastMe
 use Rattle.rule_nodes.specs.declared.numbers.Source.{Source}
 use Rattle.rule_nodes.specs.declared.numbers.Source.TheVariants.{Constant, FromLocal, FromWord, Computed}
 use Rattle.rule_syntax.specs.declared.syntax.Term.{Term}
-use Rattle.rule_syntax.specs.declared.syntax.Term.TheVariants.{Number, Nodes, Faults, Modulus, LoopNode, Local, Word, Message', Binary', Count', Least'}
+use Rattle.rule_syntax.specs.declared.syntax.Term.TheVariants.{Number, Nodes, Faults, Modulus, LoopNode, Local, Word, Message', Binary', Count', Least', Sorted'}
 use Rattle.rule_syntax.specs.declared.syntax.Assignment.{Assignment}
 use Rattle.rule_syntax.specs.declared.syntax.Assignment.TheVariants.{One, Also'}
 use Rattle.rule_syntax.specs.declared.syntax.Statement.{Statement}
@@ -35,7 +35,7 @@ use Rattle.rule_syntax.specs.declared.syntax.Statement.TheVariants.{Let', For', 
 use Rattle.rule_nodes.specs.Meaning.{apply_operator}
 use Rattle.rule_nodes.specs.Operands.{is_constant, is_local, is_operand, is_steady, constant_number, depth_behind, fetched_source, term_source, IsSourceWithin}
 use Rattle.rule_nodes.specs.Fits.{Fits, AssignmentFits, BlockFits}
-use Rattle.rule_nodes.specs.Code.{number_place, fetch_code, keep_code, set_number, set_node, copy, mirror, jump_on, jump_by, jump_at, jump_register, alu_op_of, far_of, when_of, beyond_purpose, behind_test, by_value, truth_code, get_code, load_code, operand_code, by_operator, left_code, right_code, beside_code, two_code, binary_code, message_code, message_by, tally_step, tally_codes, tallied_code, tally_code, tally_test, term_code, stored_code, let_code, assign_code, place_code, word_code, set_code, given_code, change_place, changing_insn, one_code, also_code, send_codes, send_code, send_all_code, passed_code, send_to_constant_code, receiver_code, send_to_code, each_code, assignment_code, block_code}
+use Rattle.rule_nodes.specs.Code.{number_place, fetch_code, keep_code, set_number, set_node, copy, mirror, jump_on, jump_by, jump_at, jump_register, alu_op_of, far_of, when_of, beyond_purpose, behind_test, by_value, truth_code, get_code, load_code, operand_code, by_operator, left_code, right_code, beside_code, two_code, binary_code, message_code, message_by, tally_step, tally_codes, tallied_code, tally_code, tally_test, items_code, pass_codes, nearer_end, passes_before, sorted_code, term_code, stored_code, let_code, assign_code, place_code, word_code, set_code, given_code, change_place, changing_insn, one_code, also_code, send_codes, send_code, send_all_code, passed_code, send_to_constant_code, receiver_code, send_to_code, each_code, assignment_code, block_code}
 use Rattle.rule_nodes.specs.Refusals.{IsUnmade}
 use Rattle.rule_nodes.proofs.Sources.{is_found}
 use Rattle.rule_nodes.proofs.TallyLaws.{steps_alike}
@@ -247,6 +247,34 @@ pub tally_long : (tally : Tally) (d n : ℕ) (test : ℕ → List Insn) → leng
     ≡ length (tally_codes (tally_step tally (number_place d)) test n) + 2
 tally_long tally d n test = omega (arith, length-append (tallied_code tally d n test) (fetch_code R0 (number_place d) ∷ []))
 
+one_item : (d : ℕ) (item : ℕ → List Insn) (m : ℕ)
+    → length (items_code d item (suc m)) ≡ length (items_code d item m) + (length (item m) + 1)
+one_item d item m =
+    let keep = keep_code (number_place (d + m)) ∷ [] in
+    omega (arith, length-append (items_code d item m) (item m ++ keep), length-append (item m) keep)
+
+items_long : (d : ℕ) (item : ℕ → List Insn) (n m : ℕ) → m ≤ n
+    → length (items_code d item m) ≤ length (items_code d item n)
+items_long d item zero zero le = omega arith
+items_long d item zero (suc m) le = absurd (omega (arith, le))
+items_long d item (suc n) m le = elim (cases_last n m le) [
+  | inl less ↦ omega (arith, items_long d item n m less, one_item d item n)
+  | inr same ↦ let e : length (items_code d item m) ≡ length (items_code d item (suc n)) =
+      ap (λ (k : ℕ). length (items_code d item k)) same in omega arith
+]
+
+item_in : (d : ℕ) (item : ℕ → List Insn) (n m : ℕ) → m < n → length (item m) ≤ length (items_code d item n)
+item_in d item n m lt = omega (arith, one_item d item m, items_long d item n (suc m) (omega (arith, lt)))
+
+sorted_long : (k d n : ℕ) (item : ℕ → List Insn) → k < n
+    → length (items_code d item n) ≤ length (sorted_code k d n item)
+sorted_long k d n item lt =
+    let passes = pass_codes (nearer_end k n) d n (suc (passes_before k n)) in
+    let found = items_code d item n ++ passes in
+    let e : length (sorted_code k d n item) ≡ length found =
+    ap length (cond-true (nat_lt k n) found (set_number R0 4294967295 ∷ []) (lt-ltb k n lt)) in
+    omega (arith, e, length-append (items_code d item n) passes)
+
 -- ---- statements
 
 placed_long : (p : Place) (x : Source) → 1 ≤ length (place_code p x)
@@ -413,6 +441,39 @@ tests_part tally t z J d n new le e1 =
     let test = λ (j : ℕ). term_code t z (J ++ j ∷ []) (d + 1) (tally_test tally d) in
     let l1 = tally_long tally d z.nodes test in
     let l2 = tallies_long step test z.nodes (n + 1) le in
+    rw e1 (omega (arith, l1, l2))
+
+pub sorted_part : (whole k k1 e e1 : Term) (p q : _) (z : Sizes) (J : List ℕ) (d place : ℕ) (purpose : Purpose)
+    → whole ≡ Sorted' p k q e → place ≡ constant_number k1 z J → k1 ≡ k → e1 ≡ e
+    → length (sorted_code place d z.nodes (λ j. term_code e1 z (J ++ j ∷ []) (d + j) Value))
+    ≤ length (term_code whole z J d purpose) + beyond_purpose purpose
+sorted_part whole k k1 e e1 p q z J d place purpose is at_k same_k same_e =
+    let code = λ (i : ℕ) (x : Term). sorted_code i d z.nodes (λ j. term_code x z (J ++ j ∷ []) (d + j) Value) in
+    let c = constant_number k z J in
+    let l : length (code c e) ≤ length (by_value purpose (code c e)) = value_long purpose (code c e) in
+    let there : place ≡ c = at_k ∙ ap (λ (x : Term). constant_number x z J) same_k in
+    let same : length (code place e1) ≡ length (code c e) = ap (λ (i : ℕ). length (code i e1)) there
+    ∙ ap (λ (x : Term). length (code c x)) same_e in
+    let made : length (term_code whole z J d purpose) ≡ length (by_value purpose (code c e)) =
+    ap (λ (x : Term). length (term_code x z J d purpose)) is in
+    omega (arith, l, same, made)
+
+pub item_part : (e : Term) (z : Sizes) (J J1 J2 : List ℕ) (k d n : ℕ) → J1 ≡ J ++ n ∷ [] → J2 ≡ J1 → k < z.nodes
+    → n < z.nodes → length (term_code e z J2 (d + n) Value) + 0
+    ≤ length (sorted_code k d z.nodes (λ j. term_code e z (J ++ j ∷ []) (d + j) Value))
+item_part e z J J1 J2 k d n e1 e2 there lt =
+    let item = λ (j : ℕ). term_code e z (J ++ j ∷ []) (d + j) Value in
+    let l1 = sorted_long k d z.nodes item there in
+    let l2 = item_in d item z.nodes n lt in
+    rw (e2, e1) (omega (arith, l1, l2))
+
+pub items_part : (e : Term) (z : Sizes) (J : List ℕ) (k d n : ℕ) (new : List Insn) → k < z.nodes → n + 1 ≤ z.nodes
+    → new ≡ items_code d (λ j. term_code e z (J ++ j ∷ []) (d + j) Value) (n + 1)
+    → length new ≤ length (sorted_code k d z.nodes (λ j. term_code e z (J ++ j ∷ []) (d + j) Value))
+items_part e z J k d n new there le e1 =
+    let item = λ (j : ℕ). term_code e z (J ++ j ∷ []) (d + j) Value in
+    let l1 = sorted_long k d z.nodes item there in
+    let l2 = items_long d item z.nodes (n + 1) le in
     rw e1 (omega (arith, l1, l2))
 
 -- ---- the parts of assignments and statements

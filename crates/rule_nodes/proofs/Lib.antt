@@ -11,6 +11,9 @@ pub mod Whole
 pub mod Slots
 pub mod Loops
 pub mod TallyLaws
+pub mod SortLaws
+pub mod Rows
+pub mod FitsLess
 pub mod Typing
 pub mod TypedTerms
 pub mod TypedBlocks

@@ -171,6 +171,7 @@ pub record Placed (d v : ℕ) (s t : MachineState) : Type 0 where
   pub there : At d t v
   pub others : (k w : ℕ) → k ≢ d → k < PLACES → At k s w → At k t w
   pub r6 : get t.frame.registers 6 ≡ get s.frame.registers 6
+  pub scratch : (j : ℕ) → j < 6 → get t.frame.registers j ≡ get s.frame.registers j
   pub framed : IsFramed s → IsFramed t
   pub memory : t.memory ≡ s.memory
   pub sent : t.sent ≡ s.sent
@@ -180,6 +181,7 @@ record PutIn (p : Place) (d v : ℕ) (s t : MachineState) : Type 0 where
   others : (q : Place) (k w : ℕ) → IsPlace q k → k ≢ d → IsIn q s.frame.registers s.frame.stack w
       → IsIn q t.frame.registers t.frame.stack w
   r6 : get t.frame.registers 6 ≡ get s.frame.registers 6
+  scratch : (j : ℕ) → j < 6 → get t.frame.registers j ≡ get s.frame.registers j
   framed : IsFramed s → IsFramed t
   memory : t.memory ≡ s.memory
   sent : t.sent ≡ s.sent
@@ -189,6 +191,7 @@ placed_of d v s t h = record {
   there = h.there;
   others = λ k w other small at. h.others (number_place k) k w (place_is k small) other at;
   r6 = h.r6;
+  scratch = h.scratch;
   framed = h.framed;
   memory = h.memory;
   sent = h.sent;
@@ -204,6 +207,7 @@ put_in register d v s to number small =
       there = put_same m r (Num v);
       others = λ q k w is other at. beside_register q k w is other at;
       r6 = put_other m r (Num v) 6 (λ e. omega (arith, e, number));
+      scratch = λ j lt. put_other m r (Num v) j (λ e. omega (arith, e, number, lt));
       framed = λ h. record { r10 = put_other m r (Num v) 10 (λ e. omega (arith, e, number, small)) ∙ h.r10; free = h.free };
       memory = refl;
       sent = refl;
@@ -225,6 +229,7 @@ stack_in n d v s to number small fits =
       there = spelled s.frame.stack (511 - n) v fits;
       others = λ q k w is other at. beside_bytes q k w is other at;
       r6 = refl;
+      scratch = λ j lt. refl;
       framed = λ h. record { r10 = h.r10; free = λ j. still_free s.frame.kept (511 - n) 4 j (h.free j) };
       memory = refl;
       sent = refl;

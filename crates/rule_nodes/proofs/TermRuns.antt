@@ -1,8 +1,8 @@
 -- The runs of terms.
-use Rattle.std.proofs.Common.{◌≡◌, ℕ, zero, suc, ◌+◌, ◌%◌, ◌*◌, ◌^◌, ◌<◌, ◌≤◌, ◌==◌, Bool, true, false, not, if◌then◌else◌, ◌&&◌, ◌||◌, ◌⊎◌, min, nat_lt, nat_le, List, [], ◌∷◌, ◌++◌, length, Some, Ok, All, pos, slice_index, slice_get, refl, sym, ap, ◌∙◌, arith, subst, inl, inr, length-append}
+use Rattle.std.proofs.Common.{◌≡◌, ℕ, zero, suc, ◌+◌, ◌-◌, ◌%◌, ◌*◌, ◌^◌, ◌<◌, ◌≤◌, ◌==◌, Bool, true, false, not, if◌then◌else◌, ◌&&◌, ◌||◌, ◌⊎◌, min, nat_lt, nat_le, List, [], ◌∷◌, ◌++◌, length, Some, Ok, All, pos, slice_index, slice_get, refl, sym, ap, ◌∙◌, arith, subst, inl, inr, length-append}
 use Rattle.std.specs.Int.{w32, w64, cast_signed, cast_unsigned}
 use Rattle.std.specs.FinMap.{get}
-use Rattle.std.proofs.lemmas.Bool.{cases_Bool, cases_lt, lt-ltb, ltb-true, le-leb, lt-leb, cond-true, cond-false, and_parts}
+use Rattle.std.proofs.lemmas.Bool.{cases_Bool, cases_lt, lt-ltb, ltb-true, ltb-false, le-leb, lt-leb, cond-true, cond-false, and_parts}
 use Rattle.std.proofs.lemmas.List.Elements.{All-get_or, All-push}
 use Rattle.node_env.specs.Env.{Setting, received}
 use Rattle.bpf_insn.specs.declared.forms.Reg.{Reg}
@@ -42,14 +42,17 @@ use Rattle.rule_nodes.specs.declared.numbers.Tally.TheVariants.{HowMany, LeastMe
 use Rattle.rule_nodes.specs.declared.numbers.Source.{Source}
 use Rattle.rule_nodes.specs.declared.numbers.Source.TheVariants.{Constant, FromLocal, FromWord, Computed}
 use Rattle.rule_syntax.specs.declared.syntax.Term.{Term}
-use Rattle.rule_syntax.specs.declared.syntax.Term.TheVariants.{Number, Nodes, Faults, Modulus, Me, Coin, LoopNode, Local, Word, Message', Binary', Logical', Not', Choice', Count', Least'}
-use Rattle.rule_nodes.specs.Meaning.{NodeState, value, word_at, apply, compare, bit_of, truth, apply_operator, combine, message_from}
+use Rattle.rule_syntax.specs.declared.syntax.Term.TheVariants.{Number, Nodes, Faults, Modulus, Me, Coin, LoopNode, Local, Word, Message', Binary', Logical', Not', Choice', Count', Least', Sorted'}
+use Rattle.rule_nodes.specs.Meaning.{NodeState, value, word_at, apply, compare, bit_of, truth, apply_operator, combine, message_from, numbers_of_nodes, in_order, number_at_place}
 use Rattle.rule_nodes.specs.Operands.{is_constant, is_fetched, is_operand, constant_number, depth_behind, fetched_source, term_source}
 use Rattle.rule_nodes.specs.Fits.{HasPlace, Fits}
-use Rattle.rule_nodes.specs.Code.{number_place, fetch_code, keep_code, increment_code, place_operand, load_place, set_number, copy, alu_op_of, cond_of, jump_on, jump_by, jump_at, beyond_purpose, truth_code, by_value, by_test, two_code, get_code, operand_code, load_code, jump_register, by_operator, left_code, right_code, beside_code, binary_code, choice_code, if_code, decides, both_far, both_code, message_code, message_by, mirror, set_node, lower_code, tally_start, tally_step, tally_codes, tallied_code, tally_code, tally_test, term_code}
+use Rattle.rule_nodes.specs.Code.{number_place, fetch_code, keep_code, increment_code, place_operand, load_place, set_number, copy, alu_op_of, cond_of, jump_on, jump_by, jump_at, beyond_purpose, truth_code, by_value, by_test, two_code, get_code, operand_code, load_code, jump_register, by_operator, left_code, right_code, beside_code, binary_code, choice_code, if_code, decides, both_far, both_code, message_code, message_by, mirror, set_node, lower_code, tally_start, tally_step, tally_codes, tallied_code, tally_code, tally_test, items_code, exchange_code, exchange_codes, pass_code, pass_codes, nearer_end, passes_before, sorted_code, term_code}
 use Rattle.rule_nodes.proofs.Places.{inside, IsInside, IsPlace, place_is, not_frame, IsIn, At, IsFramed, Placed, fetches, keeps_at, starts_at, put_at}
 use Rattle.rule_nodes.proofs.Sources.{is_found}
 use Rattle.rule_nodes.proofs.TallyLaws.{steps_alike, tally_next, tally_below, tally_none, tally_more, tally_stays, tally_small}
+use Rattle.rule_nodes.proofs.SortLaws.{kept, left, kept_first, kept_second, left_second, left_first, kept_small, left_small, pass_keeps, pass_leaves, kept_of, left_of, left_after, left_long, sorted_found, sorted_none, numbers_long}
+use Rattle.rule_nodes.proofs.Rows.{But, but_same, but_placed, but_then, same_but, AreAt, are_same, are_but, are_more}
+use Rattle.rule_nodes.proofs.FitsLess.{fits_less}
 use Rattle.rule_nodes.proofs.Small.{low, imm_low, mirrored, apply_small, operate_small, taken, compared_low, compared, truth_of, jump_compared, jump_by_zero, not_not}
 use Rattle.rule_nodes.proofs.Words.{word_loaded, word_small}
 use Rattle.rule_nodes.proofs.Forms.{sets_number, copies, operates, counts, passes, jumps, numbers, Reaches, stays, once, chain, further}
@@ -1443,6 +1446,336 @@ module _ (program : List Insn) (env : Setting) (last : ℕ) (solid : (k : ℕ) �
         };
       }
 
+  -- ---- sorted numbers
+
+  -- r0 and place b have these numbers
+  record Exchanged (b least rest : ℕ) (s t : MachineState) : Type 0 where
+    but : But b s t
+    r0 : get t.frame.registers 0 ≡ Some (Num least)
+    there : At b t rest
+
+  exchange_runs : (r : Comparison) (b x y : ℕ) (s : MachineState) → b < PLACES → x < 2 ^ 32 → y < 2 ^ 32
+      → get s.frame.registers 0 ≡ Some (Num x) → At b s y → IsFramed s
+      → Stands program s.frame.slot (exchange_code r (number_place b)) → s.frame.slot + 4 ≤ last
+      → Gets s (s.frame.slot + 4) 4 (Exchanged b (kept r x y) (left r x y) s)
+  exchange_runs r b x y s few x_small y_small r0 there framed stands le =
+      let s1 = put s (s.frame.slot + 1) R1 (Num y) in
+      let same1 : Same PLACES s s1 = same_put PLACES s s (s.frame.slot + 1) R1 (Num y) (omega arith)
+      (same_self PLACES s) in
+      let e1 : step program env s ≡ Ok (Running s1) = fetches program env (number_place b) s (s.frame.slot + 1) R1 y
+      (inside b) stands.0 refl (solid _ (omega (arith, le))) there framed y_small refl in
+      let from0 : get s1.frame.registers 0 ≡ Some (Num x) = put_other s.frame.registers 1 (Num y) 0 (λ e. omega arith)
+      ∙ r0 in
+      let from1 : get s1.frame.registers 1 ≡ Some (Num y) = put_same s.frame.registers 1 (Num y) in
+      let other : operand_of s1.frame (operand.Reg R1) ≡ Ok (Num y) = rw from1 refl in
+      let c = branch_leads s s1 1 2 (cond_of r) R0 (operand.Reg R1) x y (compare r x y) (once program env s s1 e1)
+      stands.1.0 from0 other (compared r x y x_small y_small) (omega (arith, le)) in
+      let w = c.new in
+      let same : Same PLACES s w = same_alike PLACES s s1 w same1 c.fact in
+      let w0 : get w.frame.registers 0 ≡ Some (Num x) = ap (λ m. get m 0) c.fact.registers ∙ from0 in
+      elim (cases_Bool (compare r x y)) [
+        | inl so ↦
+            let far : hop (compare r x y) 2 ≡ 2 = rw so refl in
+            record {
+              new = w;
+              run = chain program env s w w 2 0 4 c.run (stays program env w) (omega arith);
+              slot = omega (arith, c.slot, far);
+              fact = record {
+                but = but_same b s w same;
+                r0 = subst (λ (n : ℕ). get w.frame.registers 0 ≡ Some (Num n)) (sym (kept_first r x y so)) w0;
+                there = subst (λ (n : ℕ). At b w n) (sym (left_second r x y so)) (same.places b y few there);
+              };
+            }
+        | inr not_so ↦
+            let near : hop (compare r x y) 2 ≡ 0 = rw not_so refl in
+            let slot : w.frame.slot ≡ s.frame.slot + 1 + 1 = omega (arith, c.slot, near) in
+            let w1 : get w.frame.registers 1 ≡ Some (Num y) = ap (λ m. get m 1) c.fact.registers ∙ from1 in
+            let p = keeps_at program env b x w (w.frame.slot + 1) few (ap (insn_at program) slot ∙ stands.1.1.0) refl
+            (solid _ (omega (arith, le, slot))) w0 (same.framed framed) x_small in
+            let q = p.new in
+            let q1 : get q.frame.registers 1 ≡ Some (Num y) = p.fact.scratch 1 (omega arith) ∙ w1 in
+            let slot2 : q.frame.slot ≡ s.frame.slot + 1 + 1 + 1 = omega (arith, p.slot, slot) in
+            let end = put q (q.frame.slot + 1) R0 (Num y) in
+            let e4 : step program env q ≡ Ok (Running end) = copies program env q (q.frame.slot + 1) R0 R1 y
+            (ap (insn_at program) slot2 ∙ stands.1.1.1.0) refl (solid _ (omega (arith, le, slot2))) q1 y_small refl in
+            let same2 : Same PLACES q end = same_put PLACES q q (q.frame.slot + 1) R0 (Num y) (omega arith)
+            (same_self PLACES q) in
+            record {
+              new = end;
+              run = further program env s q end 3 4 (further program env s w q 2 3 c.run p.runs (omega arith)) e4
+                  (omega arith);
+              slot = omega (arith, slot2);
+              fact = record {
+                but = but_then b s w end (but_same b s w same)
+                    (but_then b w q end (but_placed b x w q p.fact) (but_same b q end same2));
+                r0 = subst (λ (n : ℕ). get end.frame.registers 0 ≡ Some (Num n)) (sym (kept_second r x y not_so))
+                    (put_same q.frame.registers 0 (Num y));
+                there = subst (λ (n : ℕ). At b end n) (sym (left_first r x y not_so))
+                    (same2.places b x few p.fact.there);
+              };
+            }
+      ]
+
+  -- r0 has a number, and the places from b on these
+  record Passed (b v : ℕ) (vs : List ℕ) (s t : MachineState) : Type 0 where
+    same : Same b s t
+    r0 : get t.frame.registers 0 ≡ Some (Num v)
+    small : v < 2 ^ 32
+    there : AreAt b vs t
+
+  exchanges_run : (r : Comparison) (b x : ℕ) (ys : List ℕ) (s : MachineState) → b + length ys ≤ PLACES → x < 2 ^ 32
+      → get s.frame.registers 0 ≡ Some (Num x) → AreAt b ys s → IsFramed s
+      → Stands program s.frame.slot (exchange_codes r b (length ys))
+      → s.frame.slot + length (exchange_codes r b (length ys)) ≤ last
+      → Gets s (s.frame.slot + length (exchange_codes r b (length ys))) (length (exchange_codes r b (length ys)))
+      (Passed b (pass_keeps r x ys) (pass_leaves r x ys) s)
+  exchanges_run r b x [] s few small r0 there framed stands le = record {
+    new = s;
+    run = stays program env s;
+    slot = omega arith;
+    fact = record { same = same_self b s; r0 = r0; small = small; there = tt };
+  }
+  exchanges_run r b x (y ∷ ys) s few small r0 there framed stands le =
+      let front = exchange_code r (number_place b) in
+      let back = exchange_codes r (b + 1) (length ys) in
+      let len : length (front ++ back) ≡ 4 + length back = length-append front back in
+      let c = exchange_runs r b x y s (omega (arith, few)) small there.1 r0 there.0 framed
+      (stands_front program s.frame.slot front back stands) (omega (arith, len, le)) in
+      let t = c.new in
+      let slot : t.frame.slot ≡ s.frame.slot + length front = c.slot in
+      let g = exchanges_run r (b + 1) (kept r x y) ys t (omega (arith, few)) (kept_small r x y small there.1) c.fact.r0
+      (are_but (b + 1) b ys s t (omega arith) (omega (arith, few)) c.fact.but there.2) (c.fact.but.framed framed)
+      (here_is t _ back slot (stands_back program s.frame.slot front back stands)) (omega (arith, len, le, c.slot)) in
+      let u = g.new in
+      record {
+        new = u;
+        run = chain program env s t u 4 (length back) (length (front ++ back)) c.run g.run (omega (arith, len));
+        slot = omega (arith, len, c.slot, g.slot);
+        fact = record {
+          same = same_then b s t u (same_but b s t (omega (arith, few)) c.fact.but) (same_less b t u g.fact.same);
+          r0 = g.fact.r0;
+          small = g.fact.small;
+          there = (
+            g.fact.same.places b (left r x y) (omega arith) c.fact.there,
+            left_small r x y small there.1,
+            g.fact.there,
+          );
+        };
+      }
+
+  -- a pass over place a and the m places behind it
+  pass_runs : (r : Comparison) (a m : ℕ) (vs : List ℕ) (s : MachineState) → length vs ≡ suc m → a + m < PLACES
+      → AreAt a vs s → IsFramed s → Stands program s.frame.slot (pass_code r a m)
+      → s.frame.slot + length (pass_code r a m) ≤ last
+      → Gets s (s.frame.slot + length (pass_code r a m)) (length (pass_code r a m))
+      (Passed (a + 1) (kept_of r vs) (left_of r vs) s)
+  pass_runs r a m [] s long few there framed stands le = absurd (omega (arith, long))
+  pass_runs r a m (v ∷ vs) s long few there framed stands le =
+      let is : length vs ≡ m = omega (arith, long) in
+      let c = fetch_runs PLACES a v s there.1 there.0 framed (stands.0, tt) (omega (arith, le)) in
+      let t = c.new in
+      let back = exchange_codes r (a + 1) (length vs) in
+      let same_back : length back ≡ length (exchange_codes r (a + 1) m) =
+      ap (λ (n : ℕ). length (exchange_codes r (a + 1) n)) is in
+      let there_back : Stands program t.frame.slot back = here_is t _ back c.slot
+      (subst (λ (n : ℕ). Stands program (s.frame.slot + 1) (exchange_codes r (a + 1) n)) (sym is) stands.1) in
+      let g = exchanges_run r (a + 1) v vs t (omega (arith, few, is)) there.1 c.fact.r0
+      (are_same (a + 1) PLACES vs s t (omega (arith, few, is)) c.fact.same there.2) (c.fact.same.framed framed) there_back
+      (omega (arith, le, same_back, c.slot)) in
+      let u = g.new in
+      record {
+        new = u;
+        run = chain program env s t u 1 (length back) (length (pass_code r a m)) c.run g.run (omega (arith, same_back));
+        slot = omega (arith, same_back, c.slot, g.slot);
+        fact = record {
+          same = same_then (a + 1) s t u (same_below (a + 1) PLACES s t (omega (arith, few)) c.fact.same) g.fact.same;
+          r0 = g.fact.r0;
+          small = g.fact.small;
+          there = g.fact.there;
+        };
+      }
+
+  -- the places from a on have these numbers, and those below d theirs
+  record InRow (d a : ℕ) (vs : List ℕ) (s t : MachineState) : Type 0 where
+    same : Same d s t
+    there : AreAt a vs t
+
+  passes_run : (r : Comparison) (d n : ℕ) (vs : List ℕ) (s : MachineState) (i : ℕ) → length vs ≡ n → i ≤ n
+      → d + n ≤ PLACES → AreAt d vs s → IsFramed s → Stands program s.frame.slot (pass_codes r d n i)
+      → s.frame.slot + length (pass_codes r d n i) ≤ last
+      → Gets s (s.frame.slot + length (pass_codes r d n i)) (length (pass_codes r d n i))
+      (InRow d (d + i) (left_after r i vs) s)
+  passes_run r d n vs s zero long within few there framed stands le =
+      let e : d ≡ d + 0 = omega arith in
+      record {
+        new = s;
+        run = stays program env s;
+        slot = omega arith;
+        fact = record { same = same_self d s; there = subst (λ (a : ℕ). AreAt a vs s) e there };
+      }
+  passes_run r d n vs s (suc i) long within few there framed stands le =
+      let front = pass_codes r d n i in
+      let back = pass_code r (d + i) (n - 1 - i) in
+      let len : length (front ++ back) ≡ length front + length back = length-append front back in
+      let c = passes_run r d n vs s i long (omega (arith, within)) few there framed
+      (stands_front program s.frame.slot front back stands) (omega (arith, len, le)) in
+      let t = c.new in
+      let g = pass_runs r (d + i) (n - 1 - i) (left_after r i vs) t (omega (arith, left_long r i vs, long, within))
+      (omega (arith, within, few)) c.fact.there (c.fact.same.framed framed)
+      (here_is t _ back c.slot (stands_back program s.frame.slot front back stands)) (omega (arith, len, le, c.slot)) in
+      let u = g.new in
+      let e : d + i + 1 ≡ d + suc i = omega arith in
+      record {
+        new = u;
+        run = chain program env s t u (length front) (length back) (length (front ++ back)) c.run g.run
+            (omega (arith, len));
+        slot = omega (arith, len, c.slot, g.slot);
+        fact = record {
+          same = same_then d s t u c.fact.same (same_below d (d + i + 1) t u (omega arith) g.fact.same);
+          there = subst (λ (a : ℕ). AreAt a (left_of r (left_after r i vs)) u) e g.fact.there;
+        };
+      }
+
+  -- passes, and what the last one keeps
+  selects_run : (r : Comparison) (d n : ℕ) (vs : List ℕ) (s : MachineState) (i : ℕ) → length vs ≡ n → i < n
+      → d + n ≤ PLACES → AreAt d vs s → IsFramed s → Stands program s.frame.slot (pass_codes r d n (suc i))
+      → s.frame.slot + length (pass_codes r d n (suc i)) ≤ last
+      → Gets s (s.frame.slot + length (pass_codes r d n (suc i))) (length (pass_codes r d n (suc i)))
+      (Has d s (kept_of r (left_after r i vs)))
+  selects_run r d n vs s i long within few there framed stands le =
+      let front = pass_codes r d n i in
+      let back = pass_code r (d + i) (n - 1 - i) in
+      let len : length (front ++ back) ≡ length front + length back = length-append front back in
+      let c = passes_run r d n vs s i long (omega (arith, within)) few there framed
+      (stands_front program s.frame.slot front back stands) (omega (arith, len, le)) in
+      let t = c.new in
+      let g = pass_runs r (d + i) (n - 1 - i) (left_after r i vs) t (omega (arith, left_long r i vs, long, within))
+      (omega (arith, within, few)) c.fact.there (c.fact.same.framed framed)
+      (here_is t _ back c.slot (stands_back program s.frame.slot front back stands)) (omega (arith, len, le, c.slot)) in
+      let u = g.new in
+      record {
+        new = u;
+        run = chain program env s t u (length front) (length back) (length (front ++ back)) c.run g.run
+            (omega (arith, len));
+        slot = omega (arith, len, c.slot, g.slot);
+        fact = record {
+          same = same_then d s t u c.fact.same (same_below d (d + i + 1) t u (omega arith) g.fact.same);
+          r0 = g.fact.r0;
+          small = g.fact.small;
+        };
+      }
+
+  -- the runs of the numbers that are sorted
+  abbrev pub ItemRuns : ℕ → ℕ → (ℕ → List Insn) → (ℕ → ℕ) → MachineState → Type 0
+  ItemRuns d n item number s = (j : ℕ) (t : MachineState) → j < n → Same d s t → Stands program t.frame.slot (item j)
+      → t.frame.slot + length (item j) ≤ last
+      → Gets t (t.frame.slot + length (item j)) (length (item j)) (Has (d + j) t (number j))
+
+  items_run : (d n : ℕ) (item : ℕ → List Insn) (number : ℕ → ℕ) (s : MachineState) (m : ℕ) → m ≤ n → d + n ≤ PLACES
+      → IsFramed s → Stands program s.frame.slot (items_code d item m)
+      → s.frame.slot + length (items_code d item m) ≤ last → ItemRuns d n item number s
+      → Gets s (s.frame.slot + length (items_code d item m)) (length (items_code d item m))
+      (InRow d d (numbers_of_nodes m number) s)
+  items_run d n item number s zero within few framed stands le each = record {
+    new = s;
+    run = stays program env s;
+    slot = omega arith;
+    fact = record { same = same_self d s; there = tt };
+  }
+  items_run d n item number s (suc m) within few framed stands le each =
+      let front = items_code d item m in
+      let keep = keep_code (number_place (d + m)) ∷ [] in
+      let back = item m ++ keep in
+      let len : length (front ++ back) ≡ length front + (length (item m) + 1) = omega
+      (arith, length-append front back, length-append (item m) keep) in
+      let c = items_run d n item number s m (omega (arith, within)) few framed
+      (stands_front program s.frame.slot front back stands) (omega (arith, len, le)) each in
+      let t = c.new in
+      let at_back = here_is t _ back c.slot (stands_back program s.frame.slot front back stands) in
+      let g = each m t (omega (arith, within)) c.fact.same (stands_front program t.frame.slot (item m) keep at_back)
+      (omega (arith, len, le, c.slot)) in
+      let u = g.new in
+      let at_keep = here_is u _ keep g.slot (stands_back program t.frame.slot (item m) keep at_back) in
+      let p = keep_runs (d + m) (number m) t u (length (item m)) (omega (arith, within, few)) g.run g.fact
+      (c.fact.same.framed framed) at_keep.0 (omega (arith, len, le, c.slot, g.slot)) in
+      let w = p.new in
+      let vs = numbers_of_nodes m number in
+      let long : length vs ≡ m = numbers_long m number in
+      let e : d + m ≡ d + length vs = omega (arith, long) in
+      record {
+        new = w;
+        run = chain program env s t w (length front) (length (item m) + 1) (length (front ++ back)) c.run p.run
+            (omega (arith, len));
+        slot = omega (arith, len, c.slot, g.slot, p.slot);
+        fact = record {
+          same = same_then d s t w c.fact.same (same_below d (d + m) t w (omega arith) p.fact.same);
+          there = are_more d (number m) vs w
+              (are_same d (d + m) vs t w (omega (arith, long)) p.fact.same c.fact.there)
+              (subst (λ (a : ℕ). At a w (number m)) e p.fact.there) g.fact.small;
+        };
+      }
+
+  -- the numbers, and then the passes
+  found_runs : (k d n : ℕ) (item : ℕ → List Insn) (number : ℕ → ℕ) (s : MachineState) → k < n → d + n ≤ PLACES
+      → IsFramed s
+      → Stands program s.frame.slot (items_code d item n ++ pass_codes (nearer_end k n) d n (suc (passes_before k n)))
+      → s.frame.slot + length (items_code d item n ++ pass_codes (nearer_end k n) d n (suc (passes_before k n))) ≤ last
+      → ItemRuns d n item number s
+      → Gets s (s.frame.slot + length (items_code d item n ++ pass_codes (nearer_end k n) d n (suc (passes_before k n))))
+      (length (items_code d item n ++ pass_codes (nearer_end k n) d n (suc (passes_before k n))))
+      (Has d s (number_at_place k (in_order (numbers_of_nodes n number))))
+  found_runs k d n item number s lt few framed stands le each =
+      let vs = numbers_of_nodes n number in
+      let i = passes_before k n in
+      let r = nearer_end k n in
+      let front = items_code d item n in
+      let back = pass_codes r d n (suc i) in
+      let len : length (front ++ back) ≡ length front + length back = length-append front back in
+      let long : length vs ≡ n = numbers_long n number in
+      let c = items_run d n item number s n (omega arith) few framed
+      (stands_front program s.frame.slot front back stands) (omega (arith, len, le)) each in
+      let t = c.new in
+      let g = selects_run r d n vs t i long (omega (arith, lt)) few c.fact.there (c.fact.same.framed framed)
+      (here_is t _ back c.slot (stands_back program s.frame.slot front back stands)) (omega (arith, len, le, c.slot)) in
+      let u = g.new in
+      let is : kept_of r (left_after r i vs) ≡ number_at_place k (in_order vs) = sym (sorted_found k n vs long lt) in
+      record {
+        new = u;
+        run = chain program env s t u (length front) (length back) (length (front ++ back)) c.run g.run
+            (omega (arith, len));
+        slot = omega (arith, len, c.slot, g.slot);
+        fact = record {
+          same = same_then d s t u c.fact.same g.fact.same;
+          r0 = subst (λ (v : ℕ). get u.frame.registers 0 ≡ Some (Num v)) is g.fact.r0;
+          small = subst (λ (v : ℕ). v < 2 ^ 32) is g.fact.small;
+        };
+      }
+
+  pub sorted_runs : (k d n : ℕ) (item : ℕ → List Insn) (number : ℕ → ℕ) (s : MachineState) → d + n ≤ PLACES
+      → IsFramed s → Stands program s.frame.slot (sorted_code k d n item)
+      → s.frame.slot + length (sorted_code k d n item) ≤ last → ItemRuns d n item number s
+      → Gets s (s.frame.slot + length (sorted_code k d n item)) (length (sorted_code k d n item))
+      (Has d s (number_at_place k (in_order (numbers_of_nodes n number))))
+  sorted_runs k d n item number s few framed stands le each =
+      let found = items_code d item n ++ pass_codes (nearer_end k n) d n (suc (passes_before k n)) in
+      let none = set_number R0 4294967295 ∷ [] in
+      let v = number_at_place k (in_order (numbers_of_nodes n number)) in
+      let P : List Insn → Type 0 = λ c. Stands program s.frame.slot c → s.frame.slot + length c ≤ last
+      → Gets s (s.frame.slot + length c) (length c) (Has d s v) in
+      let whole : P (sorted_code k d n item) = elim (cases_Bool (nat_lt k n)) [
+        | inl so ↦
+            subst P (sym (cond-true (nat_lt k n) found none so))
+            (λ st l. found_runs k d n item number s (ltb-true k n so) few framed st l each)
+        | inr other ↦
+            let past : n ≤ k = ltb-false k n other in
+            let is : 4294967295 ≡ v = sym (sorted_none k (numbers_of_nodes n number)
+            (omega (arith, past, numbers_long n number))) in
+            subst P (sym (cond-false (nat_lt k n) found none other))
+            (λ st l. subst (λ (x : ℕ). Gets s (s.frame.slot + 1) 1 (Has d s x)) is
+            (number_runs d 4294967295 s (omega arith) st l))
+      ] in
+      whole stands le
+
   -- ---- terms
 
   pub term_runs : (t : Term) (z : Sizes) (J : List ℕ) (d lets : ℕ) (purpose : Purpose) (u : NodeState)
@@ -1565,3 +1898,21 @@ module _ (program : List Insn) (env : Setting) (last : ℕ) (solid : (k : ℕ) �
       term_runs t z (J ++ j ∷ []) (d + 1) lets (tally_test LeastMessage d) u w sized
       (All-push (λ i. i < z.nodes) J j nodes lt) few (omega (arith, le))
       (subst (λ (n : ℕ). Fits t z n lets (d + 1)) more fits.1) (still_holds env lets d u s w le h same) st2 l2))
+  term_runs (Sorted' p k q e) z J d lets purpose u s sized nodes few le fits h stands room =
+      let place = constant_number k z J in
+      let item = λ (j : ℕ). term_code e z (J ++ j ∷ []) (d + j) Value in
+      let number = λ (j : ℕ). value e z env (J ++ j ∷ []) u in
+      let numbers = in_order (numbers_of_nodes z.nodes number) in
+      let is : number_at_place place numbers ≡ number_at_place (value k z env J u) numbers =
+      ap (λ (x : ℕ). number_at_place x numbers) (constant_is k z J u fits.0) in
+      by_value_runs purpose (sorted_code place d z.nodes item) d (number_at_place (value k z env J u) numbers) s stands room
+      (λ st l. gets s _ _ _ _ (Has d s (number_at_place place numbers)) (Has d s (number_at_place (value k z env J u) numbers)) refl
+      (omega arith) (λ w x. subst (λ (v : ℕ). Has d s v w) is x)
+      (sorted_runs place d z.nodes item number s fits.2 h.framed st l
+      (λ j w lt same st2 l2.
+      let more : length J + 1 ≡ length (J ++ j ∷ []) = omega (arith, length-append J (j ∷ [])) in
+      term_runs e z (J ++ j ∷ []) (d + j) lets Value u w sized
+      (All-push (λ i. i < z.nodes) J j nodes lt) few (omega (arith, le))
+      (subst (λ (n : ℕ). Fits e z n lets (d + j)) more
+      (fits_less e z (length J + 1) lets (d + j) (d + z.nodes) (omega (arith, lt)) fits.3))
+      (still_holds env lets d u s w le h same) st2 (omega (arith, l2)))))

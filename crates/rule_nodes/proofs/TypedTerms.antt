@@ -50,28 +50,33 @@ use Rattle.rule_nodes.specs.declared.numbers.Tally.TheVariants.{HowMany, LeastMe
 use Rattle.rule_nodes.specs.declared.numbers.Source.{Source}
 use Rattle.rule_nodes.specs.declared.numbers.Source.TheVariants.{Constant, FromLocal, FromWord, Computed}
 use Rattle.rule_syntax.specs.declared.syntax.Term.{Term}
-use Rattle.rule_syntax.specs.declared.syntax.Term.TheVariants.{Number as Numeral, Nodes, Faults, Modulus, Me, Coin, LoopNode, Local, Word, Message', Binary', Logical', Not', Choice', Count', Least'}
+use Rattle.rule_syntax.specs.declared.syntax.Term.TheVariants.{Number as Numeral, Nodes, Faults, Modulus, Me, Coin, LoopNode, Local, Word, Message', Binary', Logical', Not', Choice', Count', Least', Sorted'}
 use Rattle.rule_nodes.specs.Meaning.{apply_operator}
 use Rattle.rule_nodes.specs.Operands.{is_constant, is_operand, constant_number, depth_behind, fetched_source, term_source}
 use Rattle.rule_nodes.specs.Fits.{Fits}
-use Rattle.rule_nodes.specs.Code.{number_place, fetch_code, keep_code, start_code, increment_code, place_operand, load_place, set_number, copy, alu_op_of, cond_of, jump_on, jump_by, jump_at, beyond_purpose, truth_code, by_value, by_test, two_code, get_code, operand_code, load_code, jump_register, by_operator, left_code, right_code, beside_code, binary_code, message_by, mirror, set_node, choice_code, if_code, decides, both_far, both_code, message_code, lower_code, tally_start, tally_step, tally_codes, tallied_code, tally_code, tally_test, term_code}
+use Rattle.rule_nodes.specs.Code.{number_place, fetch_code, keep_code, start_code, increment_code, place_operand, load_place, set_number, copy, alu_op_of, cond_of, jump_on, jump_by, jump_at, beyond_purpose, truth_code, by_value, by_test, two_code, get_code, operand_code, load_code, jump_register, by_operator, left_code, right_code, beside_code, binary_code, message_by, mirror, set_node, choice_code, if_code, decides, both_far, both_code, message_code, lower_code, tally_start, tally_step, tally_codes, tallied_code, tally_code, tally_test, items_code, exchange_code, exchange_codes, pass_code, pass_codes, nearer_end, passes_before, sorted_code, term_code}
 use Rattle.rule_nodes.proofs.Places.{IsPlace, place_is, not_frame}
 use Rattle.rule_nodes.proofs.Sources.{is_found}
 use Rattle.rule_nodes.proofs.TallyLaws.{steps_alike}
+use Rattle.rule_nodes.proofs.FitsLess.{fits_less}
 use Rattle.rule_nodes.proofs.TermRuns.{found_same, behind_more, free_beside, same_depth}
-use Rattle.rule_nodes.proofs.Typing.{memory_place, word, held, written_at, known, plain, valued, within, proper_known, some_word, into, Grows, grows_none, written_less, placed_in, placed_beside, register_kind, short, seen, Typing, typed_then, typed_as, typed_none, one_on, one_jump, one_fork, number_typed, fetch_place, fetch_typed, keep_typed, change_typed, begin_typed, second_typed}
+use Rattle.rule_nodes.proofs.Typing.{memory_place, word, held, written_at, known, plain, valued, within, proper_known, some_word, into, Grows, grows_none, written_less, placed_in, placed_beside, register_kind, short, seen, Typing, typed_then, typed_as, typed_none, one_on, one_jump, one_fork, number_typed, fetch_place, fetch_typed, keep_beside, keep_typed, change_typed, begin_typed, second_typed}
 
-held_less : (k d : ℕ) → IsKindIn (held k (d + 1)) (held k d)
-held_less k d = elim (cases_lt k d) [
-  | inl h ↦ rw (lt-ltb k d h, lt-ltb k (d + 1) (omega arith)) (kind_in_itself word)
+held_below : (k d e : ℕ) → d ≤ e → IsKindIn (held k e) (held k d)
+held_below k d e le = elim (cases_lt k d) [
+  | inl h ↦ rw (lt-ltb k d h, lt-ltb k e (omega (arith, h, le))) (kind_in_itself word)
   | inr h ↦ rw (le-ltb k d h) tt
 ]
 
+-- places may be forgotten
+pub known_below : (d e : ℕ) (k0 k1 k2 : AbstractValue) → d ≤ e → IsContainedIn (known e k0 k1 k2) (known d k0 k1 k2)
+known_below d e k0 k1 k2 le =
+    within (known e k0 k1 k2) k0 k1 k2 memory_place (held 0 d) (held 1 d) (held 2 d) stack_base (written_at d)
+    (kind_in_itself k0) (kind_in_itself k1) (kind_in_itself k2) (kind_in_itself memory_place) (held_below 0 d e le)
+    (held_below 1 d e le) (held_below 2 d e le) (kind_in_itself stack_base) (written_less d e le)
+
 pub known_less : (d : ℕ) (k0 k1 k2 : AbstractValue) → IsContainedIn (known (d + 1) k0 k1 k2) (known d k0 k1 k2)
-known_less d k0 k1 k2 =
-    within (known (d + 1) k0 k1 k2) k0 k1 k2 memory_place (held 0 d) (held 1 d) (held 2 d) stack_base (written_at d)
-    (kind_in_itself k0) (kind_in_itself k1) (kind_in_itself k2) (kind_in_itself memory_place) (held_less 0 d)
-    (held_less 1 d) (held_less 2 d) (kind_in_itself stack_base) (written_less d (d + 1) (omega arith))
+known_less d k0 k1 k2 = known_below d (d + 1) k0 k1 k2 (omega arith)
 
 pub covers_less : (table : Table) (A C : AbstractState) (to : ℕ) → IsContainedIn A C → IsCovered table C to
     → IsCovered table A to
@@ -337,6 +342,21 @@ left_reg r taken d C e = by (branch_of (cond_of r) W32 (full_of 32) (full_of 32)
     by None f h = absurd (none-some C h)
     by (Some pair) f h = subst (λ (x : AbstractState). IsContainedIn x (valued d)) (same_Some _ C h)
         (into _ d word Unset Unset (pair.0, refl, (branch_inside r taken pair f).0) tt tt refl)
+
+-- both stay numbers of 32 bits
+both_left : (r : Comparison) (taken : Bool) (d : ℕ) (C : AbstractState)
+    → refined_by (known d word word Unset) R0 (operand.Reg R1)
+    (branch_of (cond_of r) W32 (full_of 32) (full_of 32) taken) ≡ Some C → IsContainedIn C (known d word word Unset)
+both_left r taken d C e = by (branch_of (cond_of r) W32 (full_of 32) (full_of 32) taken) refl e
+  where
+    by : (found : Option (Span × Span)) → branch_of (cond_of r) W32 (full_of 32) (full_of 32) taken ≡ found
+        → refined_by (known d word word Unset) R0 (operand.Reg R1) found ≡ Some C
+        → IsContainedIn C (known d word word Unset)
+    by None f h = absurd (none-some C h)
+    by (Some pair) f h =
+        let inside = branch_inside r taken pair f in
+        subst (λ (x : AbstractState). IsContainedIn x (known d word word Unset)) (same_Some _ C h)
+        (into _ d word word Unset (pair.0, refl, inside.0) (pair.1, refl, inside.1) tt refl)
 
 -- what a comparison of r0 and the register of a place leaves
 left_register : (r : Comparison) (taken : Bool) (register : Reg) (k d : ℕ) (K : AbstractValue) (C : AbstractState)
@@ -1441,6 +1461,195 @@ module _ (program : List Insn) (shape : Extent) (last : ℕ) (solid : (k : ℕ) 
       (λ table h. covers_less table (valued (d + 1)) (valued d) end (known_less d word Unset Unset) h) f1 in
       typed_seq slot p3 codes last_one (C (plain d) slot) (C (plain (d + 1)) p3) (C (valued d) end) refl c f2
 
+  -- ---- sorted numbers
+
+  -- r0 beside r1: both stay numbers of 32 bits if it isn't taken
+  both_fork : (r : Comparison) (d slot far : ℕ) → slot + 1 + far ≤ last
+      → T slot (jump_by r (operand.Reg R1) far ∷ []) (C (known d word word Unset) slot)
+      (λ table. C (known d word word Unset) (slot + 1) table × C (valued d) (slot + 1 + far) table)
+  both_fork r d slot far le = one_fork program shape last solid slot far (cond_of r) R0 (operand.Reg R1)
+      (known d word word Unset) (known d word word Unset) (valued d) (λ x e. both_left r false d x e)
+      (λ x e. left_reg r true d x e) (proper_known d word word Unset some_word some_word tt) (keeps_own _ _ _ refl) le
+
+  -- r1 into r0
+  first_typed : (d slot : ℕ) → slot + 1 ≤ last
+      → T slot (copy R0 R1 ∷ []) (C (known d Unset word Unset) slot) (C (valued d) (slot + 1))
+  first_typed d slot le = one_on program shape last solid slot (copy R0 R1) (known d Unset word Unset) _ (valued d) refl
+      refl refl (into _ d word Unset Unset (kind_in_itself word) tt tt refl)
+      (proper_known d Unset word Unset tt some_word tt) (keeps_own _ _ _ refl) le
+
+  exchange_typed : (r : Comparison) (b e slot : ℕ) → b < e → e ≤ PLACES → slot + 4 ≤ last
+      → T slot (exchange_code r (number_place b)) (C (valued e) slot) (C (valued e) (slot + 4))
+  exchange_typed r b e slot lt few le =
+      let p = number_place b in
+      let is = place_is b (omega (arith, lt, few)) in
+      let V = valued e in
+      let B = known e word word Unset in
+      let K = known e Unset word Unset in
+      let p1 = slot + 1 in
+      let p2 = p1 + 1 in
+      let p3 = p2 + 1 in
+      let end = slot + 4 in
+      let jump = jump_by r (operand.Reg R1) 2 ∷ [] in
+      let a = fetch_place program shape last solid p b e R1 word Unset Unset B slot is lt some_word tt tt refl
+      (into _ e word word Unset (kind_in_itself word) (kind_in_itself word) tt refl) (omega (arith, le)) in
+      let e1 : p1 + 1 + 2 ≡ end = omega arith in
+      let f = subst (λ (n : ℕ). T p1 jump (C B p1) (λ table. C B p2 table × C V n table)) e1
+      (both_fork r e p1 2 (omega (arith, le))) in
+      let g = keep_beside program shape last solid p b e e word p2 is (grows_none b e lt) some_word
+      (omega (arith, le)) in
+      let e2 : p3 + 1 ≡ end = omega arith in
+      let h = typed_at p3 (p3 + 1) end (copy R0 R1 ∷ []) (C K p3) V e2 (first_typed e p3 (omega (arith, le))) in
+      let gh = typed_seq p2 p3 (keep_code p ∷ []) (copy R0 R1 ∷ []) (C B p2) (C K p3) (C V end) refl g h in
+      let rest = keep_code p ∷ copy R0 R1 ∷ [] in
+      let fgh = typed_then program shape last solid p1 p2 jump rest (C B p1) (λ table. C B p2 table × C V end table)
+      (C B p2) (C V end) refl f gh (λ table o asks. (o, asks)) in
+      let back = jump_by r (operand.Reg R1) 2 ∷ rest in
+      let fgh1 = typed_as program shape last solid p1 back (λ table. C B p1 table × C B p2 table) (C V end) (C B p1)
+      (C V end) (λ table h. h.0) (λ table h. h) fgh in
+      typed_seq slot p1 (fetch_code R1 p ∷ []) back (C V slot) (C B p1) (C V end) refl a fgh1
+
+  exchanges_typed : (r : Comparison) (b m e slot : ℕ) → b + m ≤ e → e ≤ PLACES
+      → slot + length (exchange_codes r b m) ≤ last
+      → T slot (exchange_codes r b m) (C (valued e) slot) (C (valued e) (slot + length (exchange_codes r b m)))
+  exchanges_typed r b zero e slot within few le =
+      let same : slot ≡ slot + 0 = omega arith in
+      typed_at slot slot (slot + 0) [] (C (valued e) slot) (valued e) same
+      (typed_none program shape last solid slot (C (valued e) slot))
+  exchanges_typed r b (suc m) e slot within few le =
+      let V = valued e in
+      let front = exchange_code r (number_place b) in
+      let back = exchange_codes r (b + 1) m in
+      let len : length (front ++ back) ≡ 4 + length back = length-append front back in
+      let p1 = slot + 4 in
+      let a = exchange_typed r b e slot (omega (arith, within)) few (omega (arith, len, le)) in
+      let f = exchanges_typed r (b + 1) m e p1 (omega (arith, within)) few (omega (arith, len, le)) in
+      let same : p1 + length back ≡ slot + length (front ++ back) = omega (arith, len) in
+      typed_at slot (p1 + length back) (slot + length (front ++ back)) (front ++ back) (C V slot) V same
+      (typed_seq slot p1 front back (C V slot) (C V p1) (C V (p1 + length back)) refl a f)
+
+  pass_typed : (r : Comparison) (a m e slot : ℕ) → a + m < e → e ≤ PLACES → slot + length (pass_code r a m) ≤ last
+      → T slot (pass_code r a m) (C (plain e) slot) (C (valued e) (slot + length (pass_code r a m)))
+  pass_typed r a m e slot within few le =
+      let V = valued e in
+      let codes = exchange_codes r (a + 1) m in
+      let p1 = slot + 1 in
+      let f = fetch_typed program shape last solid a e Unset slot (omega (arith, within)) few tt (omega (arith, le)) in
+      let g = exchanges_typed r (a + 1) m e p1 (omega (arith, within)) few (omega (arith, le)) in
+      let same : p1 + length codes ≡ slot + length (pass_code r a m) = omega arith in
+      typed_at slot (p1 + length codes) (slot + length (pass_code r a m)) (pass_code r a m) (C (plain e) slot) V same
+      (typed_seq slot p1 (fetch_code R0 (number_place a) ∷ []) codes (C (plain e) slot) (C V p1)
+      (C V (p1 + length codes)) refl f g)
+
+  -- passes, and one more
+  selects_typed : (r : Comparison) (d n i slot : ℕ) → i < n → d + n ≤ PLACES
+      → slot + length (pass_codes r d n (suc i)) ≤ last
+      → (slot + length (pass_codes r d n i) ≤ last
+      → T slot (pass_codes r d n i) (C (plain (d + n)) slot) (C (plain (d + n)) (slot + length (pass_codes r d n i))))
+      → T slot (pass_codes r d n (suc i)) (C (plain (d + n)) slot)
+      (C (valued (d + n)) (slot + length (pass_codes r d n (suc i))))
+  selects_typed r d n i slot within few le before =
+      let S = plain (d + n) in
+      let V = valued (d + n) in
+      let front = pass_codes r d n i in
+      let back = pass_code r (d + i) (n - 1 - i) in
+      let len : length (front ++ back) ≡ length front + length back = length-append front back in
+      let p1 = slot + length front in
+      let f = before (omega (arith, len, le)) in
+      let g = pass_typed r (d + i) (n - 1 - i) (d + n) p1 (omega (arith, within)) few (omega (arith, len, le)) in
+      let same : p1 + length back ≡ slot + length (front ++ back) = omega (arith, len) in
+      typed_at slot (p1 + length back) (slot + length (front ++ back)) (front ++ back) (C S slot) V same
+      (typed_seq slot p1 front back (C S slot) (C S p1) (C V (p1 + length back)) refl f g)
+
+  passes_typed : (r : Comparison) (d n i slot : ℕ) → i ≤ n → d + n ≤ PLACES
+      → slot + length (pass_codes r d n i) ≤ last
+      → T slot (pass_codes r d n i) (C (plain (d + n)) slot) (C (plain (d + n)) (slot + length (pass_codes r d n i)))
+  passes_typed r d n zero slot within few le =
+      let S = plain (d + n) in
+      let same : slot ≡ slot + 0 = omega arith in
+      typed_at slot slot (slot + 0) [] (C S slot) S same (typed_none program shape last solid slot (C S slot))
+  passes_typed r d n (suc i) slot within few le =
+      let S = plain (d + n) in
+      let V = valued (d + n) in
+      let end = slot + length (pass_codes r d n (suc i)) in
+      typed_as program shape last solid slot (pass_codes r d n (suc i)) (C S slot) (C V end) (C S slot) (C S end)
+      (λ table h. h) (λ table h. covers_less table V S end (valued_less (d + n)) h)
+      (selects_typed r d n i slot (omega (arith, within)) few le
+      (λ l. passes_typed r d n i slot (omega (arith, within)) few l))
+
+  -- the numbers that are sorted
+  abbrev ItemsTyped : ℕ → ℕ → (ℕ → List Insn) → Type 0
+  ItemsTyped d n item = (j to : ℕ) → j < n → to + length (item j) ≤ last → TermTyped Value (d + j) to (item j)
+
+  items_typed : (d n slot m : ℕ) (item : ℕ → List Insn) → m ≤ n → d + n ≤ PLACES
+      → slot + length (items_code d item m) ≤ last → ItemsTyped d n item
+      → T slot (items_code d item m) (C (plain d) slot) (C (plain (d + m)) (slot + length (items_code d item m)))
+  items_typed d n slot zero item within few le each =
+      let same : slot ≡ slot + 0 = omega arith in
+      let e : d ≡ d + 0 = omega arith in
+      subst (λ (x : ℕ). T slot [] (C (plain d) slot) (C (plain x) (slot + 0))) e
+      (typed_at slot slot (slot + 0) [] (C (plain d) slot) (plain d) same
+      (typed_none program shape last solid slot (C (plain d) slot)))
+  items_typed d n slot (suc m) item within few le each =
+      let front = items_code d item m in
+      let keep = keep_code (number_place (d + m)) ∷ [] in
+      let back = item m ++ keep in
+      let len : length (front ++ back) ≡ length front + (length (item m) + 1) = omega
+      (arith, length-append front back, length-append (item m) keep) in
+      let p1 = slot + length front in
+      let p2 = p1 + length (item m) in
+      let end = slot + length (front ++ back) in
+      let S = plain (d + m) in
+      let V = valued (d + m) in
+      let N = plain (d + m + 1) in
+      let f = items_typed d n slot m item (omega (arith, within)) few (omega (arith, len, le)) each in
+      let g = each m p1 (omega (arith, within)) (omega (arith, len, le)) in
+      let h = keep_typed program shape last solid (d + m) p2 (omega (arith, within, few)) (omega (arith, len, le)) in
+      let same : p2 + 1 ≡ end = omega (arith, len) in
+      let h1 = typed_at p2 (p2 + 1) end keep (C V p2) N same h in
+      let gh = typed_seq p1 p2 (item m) keep (C S p1) (C V p2) (C N end) refl g h1 in
+      let e : d + m + 1 ≡ d + suc m = omega arith in
+      subst (λ (x : ℕ). T slot (front ++ back) (C (plain d) slot) (C (plain x) end)) e
+      (typed_seq slot p1 front back (C (plain d) slot) (C S p1) (C N end) refl f gh)
+
+  -- the numbers, and then the passes
+  found_typed : (r : Comparison) (d n i slot : ℕ) (item : ℕ → List Insn) → i < n → d + n ≤ PLACES
+      → slot + length (items_code d item n ++ pass_codes r d n (suc i)) ≤ last → ItemsTyped d n item
+      → TermTyped Value d slot (items_code d item n ++ pass_codes r d n (suc i))
+  found_typed r d n i slot item within few le each =
+      let front = items_code d item n in
+      let back = pass_codes r d n (suc i) in
+      let len : length (front ++ back) ≡ length front + length back = length-append front back in
+      let p1 = slot + length front in
+      let end = slot + length (front ++ back) in
+      let S = plain (d + n) in
+      let V = valued (d + n) in
+      let f = items_typed d n slot n item (omega arith) few (omega (arith, len, le)) each in
+      let g = selects_typed r d n i p1 within few (omega (arith, len, le))
+      (λ l. passes_typed r d n i p1 (omega (arith, within)) few l) in
+      let same : p1 + length back ≡ end = omega (arith, len) in
+      let g1 = typed_at p1 (p1 + length back) end back (C S p1) V same g in
+      let g2 = typed_as program shape last solid p1 back (C S p1) (C V end) (C S p1) (C (valued d) end) (λ table h. h)
+      (λ table h. covers_less table V (valued d) end (known_below d (d + n) word Unset Unset (omega arith)) h) g1 in
+      typed_seq slot p1 front back (C (plain d) slot) (C S p1) (C (valued d) end) refl f g2
+
+  sorted_typed : (k d n slot : ℕ) (item : ℕ → List Insn) → d + n ≤ PLACES
+      → slot + length (sorted_code k d n item) ≤ last → ItemsTyped d n item
+      → TermTyped Value d slot (sorted_code k d n item)
+  sorted_typed k d n slot item few le each =
+      let found = items_code d item n ++ pass_codes (nearer_end k n) d n (suc (passes_before k n)) in
+      let none = set_number R0 4294967295 ∷ [] in
+      let P : List Insn → Type 0 = λ c. slot + length c ≤ last → TermTyped Value d slot c in
+      let whole : P (sorted_code k d n item) = elim (cases_Bool (nat_lt k n)) [
+        | inl so ↦
+            let lt = ltb-true k n so in
+            subst P (sym (cond-true (nat_lt k n) found none so))
+            (λ l. found_typed (nearer_end k n) d n (passes_before k n) slot item (omega (arith, lt)) few l each)
+        | inr other ↦ subst P (sym (cond-false (nat_lt k n) found none other))
+            (λ l. number_typed program shape last solid d 4294967295 slot l)
+      ] in
+      whole le
+
   -- ---- terms
 
   pub term_typed : (t : Term) (z : Sizes) (J : List ℕ) (d lets : ℕ) (purpose : Purpose) (slot : ℕ)
@@ -1525,3 +1734,12 @@ module _ (program : List Insn) (shape : Extent) (last : ℕ) (solid : (k : ℕ) 
       let more : length J + 1 ≡ length (J ++ j ∷ []) = omega (arith, length-append J (j ∷ [])) in
       term_typed t z (J ++ j ∷ []) (d + 1) lets (tally_test LeastMessage d) to same some few room (omega (arith, below))
       (omega (arith, fits.0)) (subst (λ (n : ℕ). Fits t z n lets (d + 1)) more fits.1) k))
+  term_typed (Sorted' p k q e) z J d lets purpose slot same some few room below small fits le =
+      let item = λ (j : ℕ). term_code e z (J ++ j ∷ []) (d + j) Value in
+      by_value_typed purpose d slot (sorted_code (constant_number k z J) d z.nodes item) le
+      (λ l. sorted_typed (constant_number k z J) d z.nodes slot item fits.2 l
+      (λ j to lt k.
+      let more : length J + 1 ≡ length (J ++ j ∷ []) = omega (arith, length-append J (j ∷ [])) in
+      term_typed e z (J ++ j ∷ []) (d + j) lets Value to same some few room (omega (arith, below))
+      (omega (arith, lt, fits.2)) (subst (λ (n : ℕ). Fits e z n lets (d + j)) more
+      (fits_less e z (length J + 1) lets (d + j) (d + z.nodes) (omega (arith, lt)) fits.3)) (omega (arith, k))))

@@ -243,12 +243,13 @@ register_bytes k d e small grows byte h =
       | inr one ↦ absurd (omega (arith, b.low, b.high, one.0, one.1, small))
     ]
 
--- a number of 32 bits in the register of place k, beside what is known of r0
-pub placed_beside : (register : Reg) (k d e : ℕ) (A : AbstractState) (K k0 : AbstractValue)
+-- a number of 32 bits in the register of place k, beside what is known of r0 and r1
+pub placed_with : (register : Reg) (k d e : ℕ) (A : AbstractState) (K k0 k1 : AbstractValue)
     → IsPlace (InRegister register) k → Grows k d e → rest_of A ≡ rest_of (plain d) → IsKindIn K word
-    → IsKindIn (A.kinds 0) k0 → IsContainedIn (with_kind A register K) (known e k0 Unset Unset)
-placed_beside register k d e A K k0 is grows same h h0 =
-    subst (λ (n : ℕ). IsContainedIn (with_kinds A (put_kind A.kinds n K)) (known e k0 Unset Unset)) (sym is.0)
+    → IsKindIn (A.kinds 0) k0 → IsKindIn (A.kinds 1) k1
+    → IsContainedIn (with_kind A register K) (known e k0 k1 Unset)
+placed_with register k d e A K k0 k1 is grows same h h0 h1 =
+    subst (λ (n : ℕ). IsContainedIn (with_kinds A (put_kind A.kinds n K)) (known e k0 k1 Unset)) (sym is.0)
     (by k is.1 grows)
   where
     at_6 : IsKindIn (A.kinds 6) memory_place
@@ -260,23 +261,28 @@ placed_beside register k d e A K k0 is grows same h h0 =
     beside : (j k : ℕ) (l : AbstractValue) → l ≡ held j d → j ≢ k → Grows k d e → IsKindIn l (held j e)
     beside j k l eq other g = subst (λ (x : AbstractValue). IsKindIn x (held j e)) (sym eq) (held_grows j k d e other g)
 
-    by : (k : ℕ) → k < 3 → Grows k d e → IsContainedIn (with_kinds A (put_kind A.kinds (7 + k) K)) (known e k0 Unset Unset)
+    by : (k : ℕ) → k < 3 → Grows k d e → IsContainedIn (with_kinds A (put_kind A.kinds (7 + k) K)) (known e k0 k1 Unset)
     by zero small g =
-        within _ k0 Unset Unset memory_place (held 0 e) (held 1 e) (held 2 e) stack_base (written_at e) h0 tt tt at_6
+        within _ k0 k1 Unset memory_place (held 0 e) (held 1 e) (held 2 e) stack_base (written_at e) h0 h1 tt at_6
         (held_in 0 e K h) (beside 1 0 _ (ap (λ (x : Rest). x.r8) same) (λ q. omega (arith, q)) g)
         (beside 2 0 _ (ap (λ (x : Rest). x.r9) same) (λ q. omega (arith, q)) g) at_10
         (λ byte w. ap (λ (x : Rest). x.bytes byte) same ∙ register_bytes 0 d e small g byte w)
     by (suc zero) small g =
-        within _ k0 Unset Unset memory_place (held 0 e) (held 1 e) (held 2 e) stack_base (written_at e) h0 tt tt at_6
+        within _ k0 k1 Unset memory_place (held 0 e) (held 1 e) (held 2 e) stack_base (written_at e) h0 h1 tt at_6
         (beside 0 1 _ (ap (λ (x : Rest). x.r7) same) (λ q. omega (arith, q)) g) (held_in 1 e K h)
         (beside 2 1 _ (ap (λ (x : Rest). x.r9) same) (λ q. omega (arith, q)) g) at_10
         (λ byte w. ap (λ (x : Rest). x.bytes byte) same ∙ register_bytes 1 d e small g byte w)
     by (suc (suc zero)) small g =
-        within _ k0 Unset Unset memory_place (held 0 e) (held 1 e) (held 2 e) stack_base (written_at e) h0 tt tt at_6
+        within _ k0 k1 Unset memory_place (held 0 e) (held 1 e) (held 2 e) stack_base (written_at e) h0 h1 tt at_6
         (beside 0 2 _ (ap (λ (x : Rest). x.r7) same) (λ q. omega (arith, q)) g)
         (beside 1 2 _ (ap (λ (x : Rest). x.r8) same) (λ q. omega (arith, q)) g) (held_in 2 e K h) at_10
         (λ byte w. ap (λ (x : Rest). x.bytes byte) same ∙ register_bytes 2 d e small g byte w)
     by (suc (suc (suc n))) small g = absurd (omega (arith, small))
+
+pub placed_beside : (register : Reg) (k d e : ℕ) (A : AbstractState) (K k0 : AbstractValue)
+    → IsPlace (InRegister register) k → Grows k d e → rest_of A ≡ rest_of (plain d) → IsKindIn K word
+    → IsKindIn (A.kinds 0) k0 → IsContainedIn (with_kind A register K) (known e k0 Unset Unset)
+placed_beside register k d e A K k0 is grows same h h0 = placed_with register k d e A K k0 Unset is grows same h h0 tt
 
 pub placed_in : (register : Reg) (k d e : ℕ) (A : AbstractState) (K : AbstractValue)
     → IsPlace (InRegister register) k → Grows k d e → rest_of A ≡ rest_of (plain d) → IsKindIn K word
@@ -299,12 +305,12 @@ abbrev pub stacked : AbstractState → ℕ → AbstractState
 stacked A n = abstract_state A.kinds (put_written A.written (512 - suc n) 4)
     (cleared A.entries (512 - suc n) (512 - suc n + 4))
 
--- the four bytes of place k
-pub stacked_in : (n k d e : ℕ) (A : AbstractState) → IsPlace (OnStack (negsuc n)) k → Grows k d e
-    → rest_of A ≡ rest_of (plain d) → IsContainedIn (stacked A n) (plain e)
-stacked_in n k d e A is grows same =
-    within (stacked A n) Unset Unset Unset memory_place (held 0 e) (held 1 e) (held 2 e) stack_base (written_at e)
-    tt tt tt (same_kind _ _ (ap (λ (x : Rest). x.r6) same))
+-- the four bytes of place k, beside what is known of r1
+pub stacked_with : (n k d e : ℕ) (A : AbstractState) (k1 : AbstractValue) → IsPlace (OnStack (negsuc n)) k → Grows k d e
+    → rest_of A ≡ rest_of (plain d) → IsKindIn (A.kinds 1) k1 → IsContainedIn (stacked A n) (known e Unset k1 Unset)
+stacked_with n k d e A k1 is grows same h1 =
+    within (stacked A n) Unset k1 Unset memory_place (held 0 e) (held 1 e) (held 2 e) stack_base (written_at e)
+    tt h1 tt (same_kind _ _ (ap (λ (x : Rest). x.r6) same))
     (register 0 _ (ap (λ (x : Rest). x.r7) same) (omega arith))
     (register 1 _ (ap (λ (x : Rest). x.r8) same) (omega arith))
     (register 2 _ (ap (λ (x : Rest). x.r9) same) (omega arith))
@@ -337,6 +343,10 @@ stacked_in n k d e A is grows same =
                 (known_before byte (byte_written d byte (omega (arith, above, grows.0, is.0, is.1)) b.high))
           ]
         ]
+
+pub stacked_in : (n k d e : ℕ) (A : AbstractState) → IsPlace (OnStack (negsuc n)) k → Grows k d e
+    → rest_of A ≡ rest_of (plain d) → IsContainedIn (stacked A n) (plain e)
+stacked_in n k d e A is grows same = stacked_with n k d e A Unset is grows same tt
 
 -- the low 32 bits of a number, whatever it is
 pub short : (x : ℕ) → IsKindIn (Number (alu_of Mov W32 (just x) (just x))) word
@@ -541,11 +551,13 @@ module _ (program : List Insn) (shape : Extent) (last : ℕ) (solid : (k : ℕ) 
       three : 3 ≤ n
       three = omega (arith, is.0)
 
-  -- r0 into a place
-  pub keep_place : (p : Place) (k d e : ℕ) (slot : ℕ) → IsPlace p k → Grows k d e → slot + 1 ≤ last
-      → Typing slot (keep_code p ∷ []) (Covers (valued d) slot) (Covers (plain e) (slot + 1))
-  keep_place (InRegister register) k d e slot is grows le =
-      let own : KeepsOwn shape (copy register R0) (valued d) = record {
+  -- r0 into a place, beside what r1 holds
+  pub keep_beside : (p : Place) (k d e : ℕ) (k1 : AbstractValue) (slot : ℕ) → IsPlace p k → Grows k d e
+      → IsProperKind k1 → slot + 1 ≤ last
+      → Typing slot (keep_code p ∷ []) (Covers (known d word k1 Unset) slot) (Covers (known e Unset k1 Unset) (slot + 1))
+  keep_beside (InRegister register) k d e k1 slot is grows h1 le =
+      let A = known d word k1 Unset in
+      let own : KeepsOwn shape (copy register R0) A = record {
         forward = refl;
         known = refl;
         set = refl;
@@ -557,16 +569,21 @@ module _ (program : List Insn) (shape : Extent) (last : ℕ) (solid : (k : ℕ) 
         exit = refl;
         base = refl;
       } in
-      one_on slot (copy register R0) (valued d) (with_kind (valued d) register word) (plain e) refl refl refl
-      (placed_in register k d e (valued d) word is grows refl (kind_in_itself word))
-      (proper_known d word Unset Unset some_word tt tt) own le
-  keep_place (OnStack (pos n)) k d e slot is grows le = absurd is
-  keep_place (OnStack (negsuc n)) k d e slot is grows le =
+      one_on slot (copy register R0) A (with_kind A register word) (known e Unset k1 Unset) refl refl refl
+      (placed_with register k d e A word Unset k1 is grows refl (kind_in_itself word) tt (kind_in_itself k1))
+      (proper_known d word k1 Unset some_word h1 tt) own le
+  keep_beside (OnStack (pos n)) k d e k1 slot is grows h1 le = absurd is
+  keep_beside (OnStack (negsuc n)) k d e k1 slot is grows h1 le =
+      let A = known d word k1 Unset in
       let near = reached n (omega (arith, is.0, is.1)) in
       let inside = room n (omega (arith, is.0)) in
-      one_on slot (i.StoreReg size.W R10 (negsuc n) R0) (valued d) (stacked (valued d) n) (plain e) refl refl
-      (rw near refl) (stacked_in n k d e (valued d) is grows refl) (proper_known d word Unset Unset some_word tt tt)
-      (keeps_own _ _ _ (rw (near, inside) refl)) le
+      one_on slot (i.StoreReg size.W R10 (negsuc n) R0) A (stacked A n) (known e Unset k1 Unset) refl refl
+      (rw near refl) (stacked_with n k d e A k1 is grows refl (kind_in_itself k1))
+      (proper_known d word k1 Unset some_word h1 tt) (keeps_own _ _ _ (rw (near, inside) refl)) le
+
+  pub keep_place : (p : Place) (k d e : ℕ) (slot : ℕ) → IsPlace p k → Grows k d e → slot + 1 ≤ last
+      → Typing slot (keep_code p ∷ []) (Covers (valued d) slot) (Covers (plain e) (slot + 1))
+  keep_place p k d e slot is grows le = keep_beside p k d e Unset slot is grows tt le
 
   -- a number of 32 bits into a place
   start_place : (p : Place) (k d e v : ℕ) (slot : ℕ) → IsPlace p k → Grows k d e → slot + 1 ≤ last

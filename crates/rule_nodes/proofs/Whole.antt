@@ -1,5 +1,5 @@
 -- The run of a whole rule.
-use Rattle.std.proofs.Common.{◌≡◌, ℕ, zero, suc, ◌+◌, ◌<◌, ◌≤◌, Bool, true, false, not, ◌&&◌, ◌||◌, if◌then◌else◌, nat_lt, List, [], ◌∷◌, ◌++◌, length, Option, None, Some, Ok, subst, inl, inr, pos, slice_index_or, refl, sym, ap, ◌∙◌, arith, length-append}
+use Rattle.std.proofs.Common.{◌≡◌, ℕ, zero, suc, ◌+◌, ◌-◌, ◌<◌, ◌≤◌, Bool, true, false, not, ◌&&◌, ◌||◌, if◌then◌else◌, nat_lt, List, [], ◌∷◌, ◌++◌, length, Option, None, Some, Ok, subst, inl, inr, pos, slice_index_or, refl, sym, ap, ◌∙◌, arith, length-append}
 use Rattle.std.proofs.lemmas.List.Elements.{All-nil}
 use Rattle.std.proofs.lemmas.Option.{slice_get-get_or, same_Some, none-some}
 use Rattle.std.proofs.lemmas.Bool.{cases_Bool, cond-true, cond-false}
@@ -42,13 +42,13 @@ use Rattle.rule_nodes.specs.declared.numbers.Tally.TheVariants.{HowMany, LeastMe
 use Rattle.rule_nodes.specs.declared.numbers.Source.{Source}
 use Rattle.rule_nodes.specs.declared.numbers.Source.TheVariants.{Constant, FromLocal, FromWord, Computed}
 use Rattle.rule_syntax.specs.declared.syntax.Term.{Term}
-use Rattle.rule_syntax.specs.declared.syntax.Term.TheVariants.{Number, Nodes, Faults, Modulus, Me, Coin, LoopNode, Local, Word, Message', Binary', Logical', Not', Choice', Count', Least'}
+use Rattle.rule_syntax.specs.declared.syntax.Term.TheVariants.{Number, Nodes, Faults, Modulus, Me, Coin, LoopNode, Local, Word, Message', Binary', Logical', Not', Choice', Count', Least', Sorted'}
 use Rattle.rule_syntax.specs.declared.syntax.Statement.{Statement}
 use Rattle.rule_syntax.specs.declared.syntax.Statement.TheVariants.{Nothing, Then', Let', Assign, If', For', SendAll, SendTo}
 use Rattle.rule_nodes.specs.Meaning.{initial_state}
 use Rattle.rule_nodes.specs.Operands.{is_constant, constant_number, is_local, is_operand, is_steady, depth_behind, term_source}
 use Rattle.rule_nodes.specs.Fits.{BlockFits}
-use Rattle.rule_nodes.specs.Code.{number_place, fetch_code, keep_code, start_code, increment_code, load_place, set_number, set_node, get_code, operand_code, load_code, left_code, right_code, beside_code, binary_code, mirror, message_by, copy, truth_code, by_value, by_test, by_operator, two_code, choice_code, if_code, is_nothing, decides, both_far, both_code, jump_on, jump_by, jump_register, message_code, tally_start, tally_step, tally_codes, tallied_code, tally_test, term_code, assign_code, place_code, word_code, set_code, change_place, given_code, alu_op_of, changing_insn, one_code, also_code, assignment_code, stored_code, let_code, send_code, send_codes, send_all_code, passed_code, receiver_code, send_to_code, each_code, block_code, tail_code, rule_code}
+use Rattle.rule_nodes.specs.Code.{number_place, fetch_code, keep_code, start_code, increment_code, load_place, set_number, set_node, get_code, operand_code, load_code, left_code, right_code, beside_code, binary_code, mirror, message_by, copy, truth_code, by_value, by_test, by_operator, two_code, choice_code, if_code, is_nothing, decides, both_far, both_code, jump_on, jump_by, jump_register, message_code, tally_start, tally_step, tally_codes, tallied_code, tally_test, items_code, exchange_code, exchange_codes, pass_code, pass_codes, nearer_end, passes_before, sorted_code, term_code, assign_code, place_code, word_code, set_code, change_place, given_code, alu_op_of, changing_insn, one_code, also_code, assignment_code, stored_code, let_code, send_code, send_codes, send_all_code, passed_code, receiver_code, send_to_code, each_code, block_code, tail_code, rule_code}
 use Rattle.rule_nodes.specs.Ends.{AreSizes, IsRuleEnd}
 use Rattle.rule_nodes.proofs.Forms.{leads_add, once, chain, further}
 use Rattle.rule_nodes.proofs.States.{stands_front, stands_back, Holds, IsSized}
@@ -185,6 +185,34 @@ ones_tallied tally d n test rest h g = (
       (ones_tallies (tally_step tally (number_place d)) test n (ones_step tally (number_place d)) h) g,
 )
 
+ones_items : (d n : ℕ) (item : ℕ → List Insn) → ((j : ℕ) → Ones (item j)) → Ones (items_code d item n)
+ones_items d zero item h = tt
+ones_items d (suc n) item h = ones_append (items_code d item n) _ (ones_items d n item h)
+    (ones_append (item n) _ (h n) (one_keep (number_place (d + n)), tt))
+
+ones_exchange : (r : Comparison) (p : Place) → Ones (exchange_code r p)
+ones_exchange r p = (one_fetch R1 p, (refl, (one_keep p, (refl, tt))))
+
+ones_exchanges : (r : Comparison) (b m : ℕ) → Ones (exchange_codes r b m)
+ones_exchanges r b zero = tt
+ones_exchanges r b (suc m) =
+    ones_append (exchange_code r (number_place b)) _ (ones_exchange r (number_place b)) (ones_exchanges r (b + 1) m)
+
+ones_passes : (r : Comparison) (d n i : ℕ) → Ones (pass_codes r d n i)
+ones_passes r d n zero = tt
+ones_passes r d n (suc i) = ones_append (pass_codes r d n i) (pass_code r (d + i) (n - 1 - i)) (ones_passes r d n i)
+    (one_fetch R0 (number_place (d + i)), ones_exchanges r (d + i + 1) (n - 1 - i))
+
+ones_sorted : (k d n : ℕ) (item : ℕ → List Insn) → ((j : ℕ) → Ones (item j)) → Ones (sorted_code k d n item)
+ones_sorted k d n item h = by (nat_lt k n)
+  where
+    by : (found : Bool) → Ones (if found
+        then items_code d item n ++ pass_codes (nearer_end k n) d n (suc (passes_before k n))
+        else set_number R0 4294967295 ∷ [])
+    by true = ones_append (items_code d item n) _ (ones_items d n item h)
+        (ones_passes (nearer_end k n) d n (suc (passes_before k n)))
+    by false = (refl, tt)
+
 ones_term : (t : Term) (z : Sizes) (J : List ℕ) (d : ℕ) (purpose : Purpose) → Ones (term_code t z J d purpose)
 ones_term (Number v) z J d purpose = ones_value purpose _ (refl, tt)
 ones_term Nodes z J d purpose = ones_value purpose _ (refl, tt)
@@ -217,6 +245,9 @@ ones_term (Count' p t) z J d purpose = ones_value purpose _
 ones_term (Least' p t) z J d purpose = ones_value purpose _
     (ones_tallied LeastMessage d z.nodes (λ j. term_code t z (J ++ j ∷ []) (d + 1) (tally_test LeastMessage d)) _
     (λ j. ones_term t z (J ++ j ∷ []) (d + 1) (tally_test LeastMessage d)) (one_fetch R0 (number_place d), tt))
+ones_term (Sorted' p k q e) z J d purpose = ones_value purpose _
+    (ones_sorted (constant_number k z J) d z.nodes (λ j. term_code e z (J ++ j ∷ []) (d + j) Value)
+    (λ j. ones_term e z (J ++ j ∷ []) (d + j) Value))
 
 ones_assign : (target : Target) → Ones (assign_code target ∷ [])
 ones_assign (ToLocal k) = (one_keep (number_place k), tt)

@@ -1,7 +1,7 @@
 -- The instructions of a rule. r6 has the memory's place, r0 the number just computed, r1 and r2 are scratch. Numbers in
 -- use are kept in places: r7, r8 and r9, and then four bytes of the stack for each. At depth d the places below d are in
 -- use.
-use Rattle.std.specs.Prelude.{ℕ, zero, suc, ◌+◌, ◌-◌, ◌*◌, min, pos, negsuc, Bool, true, false, not, nat_lt, ◌&&◌, ◌||◌, if◌then◌else◌, Option, Some, None, List, [], ◌∷◌, ◌++◌, length, slice_index}
+use Rattle.std.specs.Prelude.{ℕ, zero, suc, ◌+◌, ◌-◌, ◌*◌, min, pos, negsuc, Bool, true, false, not, nat_lt, nat_le, ◌&&◌, ◌||◌, if◌then◌else◌, Option, Some, None, List, [], ◌∷◌, ◌++◌, length, slice_index}
 use Rattle.std.specs.Int.{w32, cast_signed}
 use Rattle.bpf_insn.specs.declared.forms.Reg as regs
 use Rattle.bpf_insn.specs.declared.forms.Reg.TheVariants.{R0, R1, R2, R6, R7, R8, R9, R10}
@@ -40,7 +40,7 @@ use Rattle.rule_nodes.specs.declared.numbers.Tally.TheVariants.{HowMany, LeastMe
 use Rattle.rule_nodes.specs.declared.numbers.Source.{Source}
 use Rattle.rule_nodes.specs.declared.numbers.Source.TheVariants.{Constant, FromLocal, FromWord, Computed}
 use Rattle.rule_syntax.specs.declared.syntax.Term.{Term}
-use Rattle.rule_syntax.specs.declared.syntax.Term.TheVariants.{Number, Nodes, Faults, Modulus, Me, Coin, LoopNode, Local, Word, Message', Binary', Logical', Not', Choice', Count', Least'}
+use Rattle.rule_syntax.specs.declared.syntax.Term.TheVariants.{Number, Nodes, Faults, Modulus, Me, Coin, LoopNode, Local, Word, Message', Binary', Logical', Not', Choice', Count', Least', Sorted'}
 use Rattle.rule_syntax.specs.declared.syntax.Statement.{Statement}
 use Rattle.rule_syntax.specs.declared.syntax.Statement.TheVariants.{Nothing, Then', Let', Assign, If', For', SendAll, SendTo}
 
@@ -302,6 +302,46 @@ tally_code tally d n test = tallied_code tally d n test ++ fetch_code R0 (number
 abbrev pub tally_test : Tally → ℕ → Purpose
 tally_test tally d = Jump false (length (tally_step tally (number_place d) 0))
 
+-- ---- sorted numbers: the number of each node in a place, and then passes over the places
+
+-- the number of node j, below n, into place d + j
+abbrev pub items_code : ℕ → (ℕ → List Insn) → ℕ → List Insn
+items_code d item zero = []
+items_code d item (suc n) = items_code d item n ++ (item n ++ keep_code (number_place (d + n)) ∷ [])
+
+-- of r0 and a place, the number for which the comparison with the other holds goes to r0, and the other to the place
+abbrev pub exchange_code : Comparison → Place → List Insn
+exchange_code r p = fetch_code R1 p ∷ jump_by r (Reg R1) 2 ∷ keep_code p ∷ copy R0 R1 ∷ []
+
+-- with each of m places, from place b on
+abbrev pub exchange_codes : Comparison → ℕ → ℕ → List Insn
+exchange_codes r b zero = []
+exchange_codes r b (suc m) = exchange_code r (number_place b) ++ exchange_codes r (b + 1) m
+
+-- of the numbers in place a and the m places behind it, the least (AtMost) or the greatest (AtLeast) goes to r0, and
+-- the others to the m places
+abbrev pub pass_code : Comparison → ℕ → ℕ → List Insn
+pass_code r a m = fetch_code R0 (number_place a) ∷ exchange_codes r (a + 1) m
+
+-- as many passes over n places, from place d on, each from the next place on
+abbrev pub pass_codes : Comparison → ℕ → ℕ → ℕ → List Insn
+pass_codes r d n zero = []
+pass_codes r d n (suc i) = pass_codes r d n i ++ pass_code r (d + i) (n - 1 - i)
+
+-- place k of n is found from the nearer end: from the lesser numbers on, or from the greater ones on
+abbrev pub nearer_end : ℕ → ℕ → Comparison
+nearer_end k n = if nat_le k (n - 1 - k) then AtMost else AtLeast
+
+-- after this many passes one more puts the number at place k of n into r0
+abbrev pub passes_before : ℕ → ℕ → ℕ
+passes_before k n = min k (n - 1 - k)
+
+-- the number at place k among n numbers, in place d and those behind it; none if there is no place k
+abbrev pub sorted_code : ℕ → ℕ → ℕ → (ℕ → List Insn) → List Insn
+sorted_code k d n item =
+    if nat_lt k n then items_code d item n ++ pass_codes (nearer_end k n) d n (suc (passes_before k n))
+    else set_number R0 4294967295 ∷ []
+
 -- of a term at depth d
 abbrev pub term_code : Term → Sizes → List ℕ → ℕ → Purpose → List Insn
 term_code (Number v) z J d purpose = by_value purpose (set_number R0 v ∷ [])
@@ -327,6 +367,8 @@ term_code (Count' p t) z J d purpose = by_value purpose
     (tally_code HowMany d z.nodes (λ j. term_code t z (J ++ j ∷ []) (d + 1) (tally_test HowMany d)))
 term_code (Least' p t) z J d purpose = by_value purpose
     (tally_code LeastMessage d z.nodes (λ j. term_code t z (J ++ j ∷ []) (d + 1) (tally_test LeastMessage d)))
+term_code (Sorted' p k q e) z J d purpose = by_value purpose
+    (sorted_code (constant_number k z J) d z.nodes (λ j. term_code e z (J ++ j ∷ []) (d + j) Value))
 
 -- ---- statements
 

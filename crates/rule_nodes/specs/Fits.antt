@@ -1,13 +1,13 @@
 -- What a rule needs to be compiled: its numbers have 32 bits, its names are in scope, its words are in the memory, and
 -- it needs no more places than there are.
-use Rattle.std.specs.Prelude.{ℕ, ◌+◌, ◌*◌, ◌^◌, ◌<◌, ◌≤◌, Bool, true, false, ◌||◌}
+use Rattle.std.specs.Prelude.{◌≡◌, ℕ, ◌+◌, ◌*◌, ◌^◌, ◌<◌, ◌≤◌, Bool, true, false, ◌||◌}
 use Rattle.rule_syntax.specs.declared.syntax.Sizes.{Sizes}
 use Rattle.rule_syntax.specs.declared.syntax.Target.{Target}
 use Rattle.rule_syntax.specs.declared.syntax.Target.TheVariants.{ToLocal, ToWord}
 use Rattle.rule_syntax.specs.declared.syntax.Assignment.{Assignment}
 use Rattle.rule_syntax.specs.declared.syntax.Assignment.TheVariants.{One, Also'}
 use Rattle.rule_syntax.specs.declared.syntax.Term.{Term}
-use Rattle.rule_syntax.specs.declared.syntax.Term.TheVariants.{Number, Nodes, Faults, Modulus, Me, Coin, LoopNode, Local, Word, Message', Binary', Logical', Not', Choice', Count', Least'}
+use Rattle.rule_syntax.specs.declared.syntax.Term.TheVariants.{Number, Nodes, Faults, Modulus, Me, Coin, LoopNode, Local, Word, Message', Binary', Logical', Not', Choice', Count', Least', Sorted'}
 use Rattle.rule_syntax.specs.declared.syntax.Statement.{Statement}
 use Rattle.rule_syntax.specs.declared.syntax.Statement.TheVariants.{Nothing, Then', Let', Assign, If', For', SendAll, SendTo}
 use Rattle.rule_nodes.specs.declared.numbers.TheConstants.{PLACES}
@@ -39,6 +39,8 @@ Fits (Not' p a) z loops lets d = Fits a z loops lets d
 Fits (Choice' p t q a r b) z loops lets d = Fits t z loops lets d × Fits a z loops lets d × Fits b z loops lets d
 Fits (Count' p t) z loops lets d = (d < PLACES) × Fits t z (loops + 1) lets (d + 1)
 Fits (Least' p t) z loops lets d = (d < PLACES) × Fits t z (loops + 1) lets (d + 1)
+Fits (Sorted' p k q e) z loops lets d =
+    (is_constant k ≡ true) × Fits k z loops lets d × (d + z.nodes ≤ PLACES) × Fits e z (loops + 1) lets (d + z.nodes)
 
 abbrev pub TargetFits : Target → ℕ → ℕ → Type 0
 TargetFits (ToLocal k) memory lets = k < lets

@@ -1,6 +1,6 @@
 -- What a rule means, with nothing of programs: from a node's memory, messages, coin and number, the memory that it
 -- leaves and the messages that it sends.
-use Rattle.std.specs.Prelude.{ℕ, zero, suc, ◌+◌, ◌-◌, ◌*◌, ◌/◌, ◌%◌, ◌^◌, ◌==◌, min, nat_lt, nat_le, not, ◌&&◌, ◌||◌, Bool, if◌then◌else◌, List, [], ◌∷◌, ◌++◌, slice_index, slice_set}
+use Rattle.std.specs.Prelude.{ℕ, zero, suc, ◌+◌, ◌-◌, ◌*◌, ◌/◌, ◌%◌, ◌^◌, ◌==◌, min, nat_lt, nat_le, not, ◌&&◌, ◌||◌, Bool, if◌then◌else◌, List, [], ◌∷◌, ◌++◌, slice_index, slice_index_or, slice_set}
 use Rattle.std.specs.Ordering.{nat_cmp}
 use Rattle.std.specs.FinMap.{FinMap, insert, empty}
 use Rattle.node_env.specs.declared.env.TheConstants.{NO_MAIL}
@@ -19,7 +19,7 @@ use Rattle.rule_syntax.specs.declared.syntax.Target.TheVariants.{ToLocal, ToWord
 use Rattle.rule_syntax.specs.declared.syntax.Assignment.{Assignment}
 use Rattle.rule_syntax.specs.declared.syntax.Assignment.TheVariants.{One, Also'}
 use Rattle.rule_syntax.specs.declared.syntax.Term.{Term}
-use Rattle.rule_syntax.specs.declared.syntax.Term.TheVariants.{Number, Nodes, Faults, Modulus, Me, Coin, LoopNode, Local, Word, Message', Binary', Logical', Not', Choice', Count', Least'}
+use Rattle.rule_syntax.specs.declared.syntax.Term.TheVariants.{Number, Nodes, Faults, Modulus, Me, Coin, LoopNode, Local, Word, Message', Binary', Logical', Not', Choice', Count', Least', Sorted'}
 use Rattle.rule_syntax.specs.declared.syntax.Statement.{Statement}
 use Rattle.rule_syntax.specs.declared.syntax.Statement.TheVariants.{Nothing, Then', Let', Assign, If', For', SendAll, SendTo}
 
@@ -73,6 +73,25 @@ least_below zero holds message = NO_MAIL
 least_below (suc n) holds message =
     if truth (holds n) then min (message n) (least_below n holds message) else least_below n holds message
 
+-- the numbers of the nodes below n, in the order of the nodes
+abbrev pub numbers_of_nodes : ℕ → (ℕ → ℕ) → List ℕ
+numbers_of_nodes zero number = []
+numbers_of_nodes (suc n) number = numbers_of_nodes n number ++ number n ∷ []
+
+-- a number put into numbers that rise, before the first greater one
+abbrev pub put_in : ℕ → List ℕ → List ℕ
+put_in v [] = v ∷ []
+put_in v (w ∷ ws) = if nat_le w v then w ∷ put_in v ws else v ∷ w ∷ ws
+
+-- the same numbers in rising order
+abbrev pub in_order : List ℕ → List ℕ
+in_order [] = []
+in_order (v ∷ vs) = put_in v (in_order vs)
+
+-- the number at a place, from 0 on; NO_MAIL past the last
+abbrev pub number_at_place : ℕ → List ℕ → ℕ
+number_at_place k vs = slice_index_or vs k NO_MAIL
+
 -- ---- the memory and the messages
 
 -- the bytes 4k to 4k + 3, the lowest first
@@ -111,6 +130,8 @@ value (Choice' p t q a r b) z env J u = if truth (value t z env J u) then value 
 value (Count' p t) z env J u = count_below z.nodes (λ j. value t z env (J ++ j ∷ []) u)
 value (Least' p t) z env J u =
     least_below z.nodes (λ j. value t z env (J ++ j ∷ []) u) (λ j. message_from z env j)
+value (Sorted' p k q e) z env J u =
+    number_at_place (value k z env J u) (in_order (numbers_of_nodes z.nodes (λ j. value e z env (J ++ j ∷ []) u)))
 
 -- ---- statements
 

@@ -1,5 +1,5 @@
 //! Whether a rule fits: its numbers, names, words and places.
-ghost use Rattle.std.specs.Prelude.{◌≡◌, ◌≤◌, ◌<◌, ◌+◌, ◌*◌, ◌^◌, ◌||◌, IfOk, IfErr};
+ghost use Rattle.std.specs.Prelude.{◌≡◌, ◌≤◌, ◌<◌, ◌+◌, ◌*◌, ◌^◌, ◌||◌, true, IfOk, IfErr};
 ghost use Rattle.rule_nodes.specs.Operands.{is_constant, is_operand, is_steady};
 ghost use Rattle.rule_nodes.specs.Fits.{HasPlace, Fits, TargetFits, AssignmentFits, BlockFits};
 ghost use Rattle.rule_nodes.specs.Refusals.{IsUnfit};
@@ -59,6 +59,31 @@ fn needs_loop(k: u32, loops: usize) -> Result<(), CompileError>
     }
 }
 
+/// Fails if there are fewer places from the depth on.
+fn needs_places(count: u32, depth: u32) -> Result<(), CompileError>
+    requires { depth ≤ PLACES }
+    ensures fits { IfOk result (λ _. depth + count ≤ PLACES) }
+    ensures unfit { IfErr result (IsUnfit (depth + count ≤ PLACES)) }
+{
+    if count <= PLACES - depth {
+        Ok(())
+    } else {
+        Err(CompileError::NoRoom)
+    }
+}
+
+/// Fails if a term is no constant.
+fn needs_constant(t: &Term) -> Result<(), CompileError>
+    ensures fits { IfOk result (λ _. is_constant t.now ≡ true) }
+    ensures unfit { IfErr result (IsUnfit (is_constant t.now ≡ true)) }
+{
+    if is_constant_of(t) {
+        Ok(())
+    } else {
+        Err(CompileError::NoRoom)
+    }
+}
+
 /// Returns the number of loops with one more around. No memory holds a rule with so many that they can't be counted.
 pub fn one_more(loops: usize) -> Result<usize, CompileError>
     ensures more { IfOk result (λ n. n ≡ loops + 1) }
@@ -112,6 +137,13 @@ fn term_fits(
             needs_less(depth, PLACES)?;
             let inner = one_more(loops)?;
             term_fits(c, sizes, inner, lets, depth + 1)
+        }
+        Term::Sorted(k, e) => {
+            needs_constant(k)?;
+            term_fits(k, sizes, loops, lets, depth)?;
+            needs_places(sizes.nodes, depth)?;
+            let inner = one_more(loops)?;
+            term_fits(e, sizes, inner, lets, depth + sizes.nodes)
         }
     }
 }

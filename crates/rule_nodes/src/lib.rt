@@ -26,11 +26,12 @@ mod numbers;
 mod operands;
 mod owners;
 mod parts;
+mod sorts;
 mod statements;
 mod tallies;
 mod terms;
 
 pub use compile::compile_rule;
 pub use errors::CompileError;
-pub use laws::{rule_ends, rule_is_taken};
+pub use laws::{order_rises, rule_ends, rule_is_taken};
 pub use owners::{ProgramWithOwners, compile_with_owners};

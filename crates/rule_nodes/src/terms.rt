@@ -3,22 +3,25 @@ ghost use Rattle.std.specs.Prelude.{◌≡◌, ◌≤◌, ◌<◌, ◌+◌, ◌*
 ghost use Rattle.bpf_insn.specs.declared.forms.Reg.TheVariants.{R0, R6};
 ghost use Rattle.bpf_insn.specs.declared.forms.Size.TheVariants as size;
 ghost use Rattle.bpf_insn.specs.declared.forms.Insn.TheVariants as i;
-ghost use Rattle.rule_nodes.specs.Operands.{term_source};
+ghost use Rattle.rule_nodes.specs.Operands.{constant_number, term_source};
 ghost use Rattle.rule_nodes.specs.Fits.{Fits};
-ghost use Rattle.rule_nodes.specs.Code.{set_number, far_of, beyond_purpose, by_value, message_by, tally_code, tally_test, term_code};
+ghost use Rattle.rule_nodes.specs.Code.{set_number, far_of, beyond_purpose, by_value, message_by, tally_code, tally_test, sorted_code, term_code};
+ghost use Rattle.rule_nodes.specs.declared.numbers.Purpose.TheVariants.{Value};
 ghost use Rattle.rule_nodes.specs.Refusals.{IsUnmade};
 
 use crate::binary::binary_of;
 use crate::errors::CompileError;
 use crate::insns::{fetch_of, place_of, set_number_of, word_offset};
 use crate::numbers::{PLACES, Purpose, Tally};
-use crate::operands::{beside_operand, depth_behind_of, source};
+use crate::operands::{beside_operand, constant_of, depth_behind_of, source};
 use crate::parts::{
     behind_test_of, by_value_of, chosen, first_test, joined, message_by_of, near, opposite_test,
     short, single, skip_test, test_of, within,
 };
+use crate::sorts::{sorted_of, with_item};
 use crate::tallies::{tallied, tally_of, tally_test_of};
 use bpf_insn::{Insn, MAX_SLOTS, Reg, Size};
+use node_env::NO_MAIL;
 use rule_syntax::{Sizes, Term};
 use std::alloc::{AllocError, Global};
 
@@ -135,6 +138,11 @@ pub fn term(
             let code = tally_over(alloc, Tally::LeastMessage, c, sizes, loops, lets, depth)?;
             short(by_value_of(code, purpose)?)
         }
+        Term::Sorted(k, e) => {
+            let place = constant_of(k, sizes, loops);
+            let code = sorted_at(alloc, place, e, sizes, loops, lets, depth)?;
+            short(by_value_of(code, purpose)?)
+        }
     }
 }
 
@@ -168,4 +176,37 @@ fn tally_over(
         codes = short(tallied(codes, &test, kind, place, node)?)?;
     }
     Ok(tally_of(alloc, kind, place, &codes)?)
+}
+
+/// Returns the code of the number at a place among the numbers of a term at all nodes in rising order, at a depth.
+#[cycle(terms)]
+fn sorted_at(
+    alloc: Global,
+    place: u32,
+    e: &Term,
+    sizes: Sizes,
+    loops: &[u32],
+    lets: u32,
+    depth: u32,
+) -> Result<Vec<Insn>, CompileError>
+    requires some { 1 ≤ sizes.nodes }
+    requires few { sizes.nodes ≤ 64 }
+    requires memory { sizes.memory ≤ 256 }
+    requires deep { depth + sizes.nodes ≤ PLACES }
+    requires fits { Fits e.now sizes (length loops.now + 1) lets (depth + sizes.nodes) }
+    ensures code { IfOk result (λ made. made.items ≡ sorted_code place depth sizes.nodes
+        (λ j. term_code e.now sizes (loops.now ++ j ∷ []) (depth + j) Value)) }
+    ensures long { IfErr result (IsUnmade (length (sorted_code place depth sizes.nodes
+        (λ j. term_code e.now sizes (loops.now ++ j ∷ []) (depth + j) Value)))) }
+{
+    if place >= sizes.nodes {
+        return Ok(single(alloc, set_number_of(Reg::R0, NO_MAIL))?);
+    }
+    let mut items = Vec::new(alloc);
+    for index in 0..sizes.nodes {
+        let inner = within(alloc, loops, index)?;
+        let item = term(alloc, e, sizes, &inner, lets, depth + index, Purpose::Value)?;
+        items = short(with_item(items, &item, depth + index)?)?;
+    }
+    Ok(sorted_of(items, place, depth, sizes.nodes)?)
 }

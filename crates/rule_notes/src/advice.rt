@@ -97,7 +97,7 @@ fn of_depth(reading: &Reading<'_>) -> &'static str {
 
 fn of_length(reading: &Reading<'_>) -> &'static str {
     if reading.begins_line {
-        return "a rule has at most 512 lines with tokens: set several names in one, or use \"for\"";
+        return "a rule has at most 2048 lines with tokens: set several names in one, or use \"for\"";
     }
     match reading.walk.next {
         Next::OfTable(TableNext::Cell | TableNext::MoreCells) => "a table has at most 1024 cells",

@@ -7,6 +7,7 @@ use crate::shown::shown;
 use crate::token::{Kind, kind_of};
 use crate::walk::{Next, Part};
 use std::alloc::{AllocError, Global};
+use std::str;
 
 /// Returns what may follow: nothing if that isn't known.
 fn may_follow(next: Next, part: Option<Part>) -> &'static str {
@@ -19,11 +20,26 @@ fn may_follow(next: Next, part: Option<Part>) -> &'static str {
         Next::Target(_) => "a name or \"clock\"",
         Next::MoreTargets(_) => "\"=\" or \",\"",
         Next::BlockColon | Next::AggregateColon => "\":\"",
-        Next::Square => "\"[\"",
+        Next::Square | Next::PlaceSquare => "\"[\"",
         Next::OfTable(next) => next.expected(),
-        Next::Operand(_) => "a term, such as a number or a name",
+        Next::Operand(_) => operand(part),
         Next::AfterTerm => after_term(part),
         Next::Unknown => "",
+    }
+}
+
+fn operand(part: Option<Part>) -> &'static str {
+    match part {
+        Some(Part::Place { .. }) => "a constant, such as f or n - 1",
+        Some(
+            Part::Round { .. }
+            | Part::Square { .. }
+            | Part::Test
+            | Part::Condition
+            | Part::Sent
+            | Part::Value(_),
+        )
+        | None => "a term, such as a number or a name",
     }
 }
 
@@ -31,6 +47,7 @@ fn after_term(part: Option<Part>) -> &'static str {
     match part {
         Some(Part::Round { .. }) => "an operator, \"if\" or \")\"",
         Some(Part::Square { .. }) => "an operator, \"if\" or \"]\"",
+        Some(Part::Place { .. }) => "an operator or \"]\"",
         Some(Part::Test) => "an operator or \"else\"",
         Some(Part::Condition) => "an operator, \"if\" or \":\"",
         Some(Part::Sent) => "an operator, \"if\", \"to\" or the end of the line",
@@ -45,7 +62,7 @@ fn fix(next: Next, part: Option<Part>, compared: bool, text: &str) -> &'static s
     match next {
         Next::Statement => fix_of_statement(text),
         Next::Block => fix_of_block(text),
-        Next::Operand(_) => fix_of_operand(text),
+        Next::Operand(_) => fix_of_operand(part, text),
         Next::AfterTerm => fix_after_term(part, compared, text),
         Next::OfTable(next) => next.fix(),
         Next::Name(_)
@@ -56,6 +73,7 @@ fn fix(next: Next, part: Option<Part>, compared: bool, text: &str) -> &'static s
         | Next::BlockColon
         | Next::AggregateColon
         | Next::Square
+        | Next::PlaceSquare
         | Next::Unknown => "",
     }
 }
@@ -75,12 +93,12 @@ fn fix_of_block(text: &str) -> &'static str {
     }
 }
 
-fn fix_of_operand(text: &str) -> &'static str {
+fn fix_of_operand(part: Option<Part>, text: &str) -> &'static str {
     match text {
-        "not" | "count" => "put it in brackets, with its term",
+        _ if matches!(part, Some(Part::Place { .. })) => "",
+        "not" | "count" | "sorted" => "put it in brackets, with its term",
         "if" => "a choice is x if t else y",
         "table" => "a table has a line of its own, before the statements",
-        "sorted" => "it has no meaning yet",
         _ => "",
     }
 }
@@ -98,6 +116,7 @@ fn fix_after_term(part: Option<Part>, compared: bool, text: &str) -> &'static st
 fn words_after_term(part: Option<Part>) -> &'static [&'static str] {
     match part {
         Some(Part::Test) => &["and", "else"],
+        Some(Part::Place { .. }) => &[],
         Some(
             Part::Round { .. }
             | Part::Square { .. }
@@ -126,10 +145,42 @@ fn open_bracket(alloc: Global, reading: &Reading<'_>) -> Result<String, AllocErr
         Some(Part::Round { line, .. }) if line < reading.line => {
             format!(in alloc; "; \"(\" of line {line} is open")
         }
-        Some(Part::Square { line, .. }) if line < reading.line => {
+        Some(Part::Square { line, .. } | Part::Place { line }) if line < reading.line => {
             format!(in alloc; "; \"[\" of line {line} is open")
         }
         Some(_) | None => Ok(String::new(alloc)),
+    }
+}
+
+/// Returns the place after `sorted` that begins with the token: up to the bracket that ends it, or the line.
+fn place_text<'a>(rest: &'a str) -> &'a str {
+    let bytes = rest.as_bytes();
+    let mut depth = 0_usize;
+    for (at, byte) in bytes.iter().enumerate() {
+        match *byte {
+            b'[' | b'(' => depth = depth.saturating_add(1),
+            b']' if depth == 0 => {
+                let end = at.min(bytes.len());
+                return str::from_utf8(&bytes[..end]).unwrap_or_default();
+            }
+            b']' | b')' => depth = depth.saturating_sub(1),
+            _ => {}
+        }
+    }
+    rest
+}
+
+/// Returns the whole place that begins with the token, if it may be one that is no constant.
+fn found_place<'a>(reading: &Reading<'a>) -> Option<&'a str> {
+    let is_first = reading.is_in_place() && reading.last == "[";
+    let is_term = match kind_of(reading.here) {
+        Kind::Sign => reading.here == "(",
+        Kind::Number | Kind::Name | Kind::Reserved => true,
+    };
+    if is_first && is_term && !reading.begins_line {
+        Some(place_text(reading.rest))
+    } else {
+        None
     }
 }
 
@@ -141,6 +192,11 @@ fn found(alloc: Global, reading: &Reading<'_>) -> Result<String, AllocError> {
     }
     if here.len() == 0 {
         return String::from_str(alloc, "the end of the line");
+    }
+    if let Some(place) = found_place(reading) {
+        let place = shown(alloc, place)?;
+        let place = place.as_str();
+        return format!(in alloc; "\"{place}\"");
     }
     let words = shown(alloc, here)?;
     let words = words.as_str();

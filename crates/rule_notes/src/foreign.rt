@@ -156,6 +156,7 @@ fn of_least(next: Next) -> &'static str {
         | Next::BlockColon
         | Next::AggregateColon
         | Next::Square
+        | Next::PlaceSquare
         | Next::OfTable(_)
         | Next::AfterTerm
         | Next::Unknown => "",
@@ -179,7 +180,7 @@ pub(crate) fn of_foreign_sign(alloc: Global, reading: &Reading<'_>) -> Result<St
         Next::MoreTargets(_) => of_target(alloc, reading),
         Next::Becomes | Next::OfTable(TableNext::Becomes) => of_becomes(alloc, reading),
         Next::BlockColon | Next::AggregateColon => of_colon(alloc, reading),
-        Next::Square => of_square(alloc, reading),
+        Next::Square | Next::PlaceSquare => of_square(alloc, reading),
         Next::Operand(_) => of_operand(alloc, reading),
         Next::AfterTerm => of_end(alloc, reading),
         Next::Name(_) | Next::MoreNames => of_name(alloc, reading),
@@ -262,9 +263,18 @@ fn of_operand(alloc: Global, reading: &Reading<'_>) -> Result<String, AllocError
         ("/", "/") => written_for(alloc, "#", "//"),
         ("<", ">") => written_for(alloc, "!=", "<>"),
         ("*", "*") => String::from_str(alloc, "there is no power: multiply"),
+        ("[", "-") if reading.is_in_place() => of_place_from_end(alloc, second(reading.rest, "-")),
         (_, "-") => of_minus(alloc, second(reading.rest, "-")),
         _ => Ok(String::new(alloc)),
     }
+}
+
+/// Returns what to write in place of a place that is counted from the end.
+fn of_place_from_end(alloc: Global, number: &str) -> Result<String, AllocError> {
+    if number.is_empty() {
+        return Ok(String::new(alloc));
+    }
+    format!(in alloc; "write \"n - {number}\" in place of \"-{number}\"")
 }
 
 /// Returns what to write in place of a number below 0.

@@ -7,7 +7,7 @@ pub(crate) enum Maker {
     Table,
     Let,
     For,
-    /// `count` or `least`.
+    /// `count`, `least` or `sorted`.
     Aggregate,
 }
 

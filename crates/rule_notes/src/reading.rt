@@ -3,7 +3,7 @@
 use crate::names::Maker;
 use crate::place::{Place, rest_of_line};
 use crate::token::tokens_of;
-use crate::walk::{Grade, Next, TableNext, Walk};
+use crate::walk::{Grade, Next, Part, TableNext, Walk};
 use std::alloc::{AllocError, Global};
 
 /// A token, and what is known before it.
@@ -103,21 +103,42 @@ impl<'a> Reading<'a> {
 
     /// Returns the words and names in scope that can be at the token's place.
     pub(crate) fn known(&self, alloc: Global) -> Result<Vec<&'a str>, AllocError> {
-        let is_operand = matches!(self.walk.next, Next::Operand(_));
+        let is_place = self.is_in_place();
+        let is_operand = matches!(self.walk.next, Next::Operand(_)) && !is_place;
         let is_index = matches!(self.walk.next, Next::OfTable(TableNext::Index));
         let mut known = Vec::new(alloc);
         for declared in self.walk.names.iter() {
             let maker = declared.maker;
-            let is_known = is_operand || is_assignable(maker) || (is_index && is_number(maker));
+            let is_known = if is_place {
+                is_constant(maker)
+            } else {
+                is_operand || is_assignable(maker) || (is_index && is_number(maker))
+            };
             if declared.is_in_scope() && is_known {
                 known.push(declared.name)?;
             }
         }
-        for word in words_at(self.walk.next) {
+        let words: &'static [&'static str] = if is_place {
+            &["none"]
+        } else {
+            words_at(self.walk.next)
+        };
+        for word in words {
             known.push(*word)?;
         }
         Ok(known)
     }
+
+    /// Returns true for an operand of the place after `sorted`, which has to be a constant.
+    pub(crate) fn is_in_place(&self) -> bool {
+        let is_operand = matches!(self.walk.next, Next::Operand(_));
+        is_operand && matches!(self.walk.part(), Some(Part::Place { .. }))
+    }
+}
+
+/// Returns true if the name is the node of a loop.
+fn is_constant(maker: Maker) -> bool {
+    matches!(maker, Maker::For | Maker::Aggregate)
 }
 
 fn is_assignable(maker: Maker) -> bool {
@@ -143,7 +164,9 @@ fn words_at(next: Next) -> &'static [&'static str] {
         Next::Block => &["clock", "let", "send"],
         Next::Target(_) => &["clock"],
         Next::Operand(Grade::Whole) => {
-            &["clock", "coin", "none", "mail", "count", "least", "not"]
+            &[
+                "clock", "coin", "none", "mail", "count", "least", "sorted", "not",
+            ]
         }
         Next::Operand(Grade::Inverse) => &["clock", "coin", "none", "mail", "not"],
         Next::Operand(Grade::Atom) => &["clock", "coin", "none", "mail"],
@@ -155,6 +178,7 @@ fn words_at(next: Next) -> &'static [&'static str] {
         | Next::BlockColon
         | Next::AggregateColon
         | Next::Square
+        | Next::PlaceSquare
         | Next::AfterTerm
         | Next::Unknown => &[],
     }

@@ -8,7 +8,7 @@ use std::alloc::{AllocError, Global};
 /// The words that are terms by themselves.
 const LEAVES: [&str; 7] = ["n", "f", "M", "me", "coin", "none", "clock"];
 
-/// What can begin an operand: `not` no operand of arithmetic, and `count` and `least` only a whole term.
+/// What can begin an operand: `not` no operand of arithmetic, and an aggregate only a whole term.
 #[derive(Clone, Copy)]
 pub(crate) enum Grade {
     Whole,
@@ -36,6 +36,8 @@ pub(crate) enum Next {
     AggregateColon,
     /// The bracket after `mail`.
     Square,
+    /// The bracket after `sorted`.
+    PlaceSquare,
     /// A token of a table's line, after its name, or of a lookup.
     OfTable(TableNext),
     Operand(Grade),
@@ -70,6 +72,8 @@ pub(crate) enum Part {
     /// Round brackets with their line. `compared` is true if the term around them has its comparison.
     Round { line: usize, compared: bool },
     Square { line: usize, compared: bool },
+    /// The place after `sorted`, with the line of its bracket.
+    Place { line: usize },
     /// The test of a choice: `else` ends it.
     Test,
     /// What follows `if` or `elif`: a colon ends it.
@@ -130,6 +134,7 @@ impl<'a> Walk<'a> {
             | Next::BlockColon
             | Next::AggregateColon
             | Next::Square
+            | Next::PlaceSquare
             | Next::OfTable(_)
             | Next::Operand(_)
             | Next::AfterTerm
@@ -150,6 +155,7 @@ impl<'a> Walk<'a> {
             | Next::BlockColon
             | Next::AggregateColon
             | Next::Square
+            | Next::PlaceSquare
             | Next::Operand(_)
             | Next::Unknown => false,
         }
@@ -196,10 +202,14 @@ impl<'a> Walk<'a> {
                 line: token.line,
                 compared: self.compared,
             })?,
+            Next::PlaceSquare if token.text == "[" => {
+                self.enter(Part::Place { line: token.line })?
+            }
             Next::Operand(grade) => self.after_operand(grade, token)?,
             Next::AfterTerm => self.after_term(token.text)?,
             Next::OfTable(next) => next.after(token.text),
-            Next::Becomes | Next::BlockColon | Next::Square | Next::Unknown => Next::Unknown,
+            Next::Becomes | Next::BlockColon | Next::Square | Next::PlaceSquare | Next::Unknown =>
+                Next::Unknown,
         };
         Ok(())
     }
@@ -263,6 +273,7 @@ impl<'a> Walk<'a> {
             "mail" => Ok(Next::Square),
             "not" if !matches!(grade, Grade::Atom) => Ok(Next::Operand(Grade::Inverse)),
             "count" if matches!(grade, Grade::Whole) => Ok(Next::Name(Maker::Aggregate)),
+            "sorted" if matches!(grade, Grade::Whole) => Ok(Next::PlaceSquare),
             text if self.is_table(text) => Ok(Next::OfTable(TableNext::IndexSquare)),
             text if is_operand(text) => Ok(Next::AfterTerm),
             _ => Ok(Next::Unknown),
@@ -300,6 +311,10 @@ impl<'a> Walk<'a> {
         match self.part() {
             Some(Part::Round { compared, .. }) if text == ")" => Ok(self.close(compared)),
             Some(Part::Square { compared, .. }) if text == "]" => Ok(self.close(compared)),
+            Some(Part::Place { .. }) if text == "]" => {
+                self.leave();
+                Ok(Next::Name(Maker::Aggregate))
+            }
             Some(Part::Test) if text == "else" => {
                 self.leave();
                 Ok(Next::Operand(Grade::Whole))

@@ -14,7 +14,7 @@ use Rattle.rule_syntax.specs.declared.syntax.Target.TheVariants.{ToLocal, ToWord
 use Rattle.rule_syntax.specs.declared.syntax.Assignment.{Assignment}
 use Rattle.rule_syntax.specs.declared.syntax.Assignment.TheVariants.{One, Also'}
 use Rattle.rule_syntax.specs.declared.syntax.Term.{Term}
-use Rattle.rule_syntax.specs.declared.syntax.Term.TheVariants.{Number, Nodes, Faults, Modulus, Me, Coin, LoopNode, Local, Word, Message', Binary', Logical', Not', Choice', Count', Least'}
+use Rattle.rule_syntax.specs.declared.syntax.Term.TheVariants.{Number, Nodes, Faults, Modulus, Me, Coin, LoopNode, Local, Word, Message', Binary', Logical', Not', Choice', Count', Least', Sorted'}
 use Rattle.rule_syntax.specs.declared.syntax.Statement.{Statement}
 use Rattle.rule_syntax.specs.declared.syntax.Statement.TheVariants.{Nothing, Then', Let', Assign, If', For', SendAll, SendTo}
 use Rattle.rule_nodes.specs.Meaning.{NodeState, truth, word_at, message_from, with_memory_word, value, with_local, assigned, all_assigned, sent_below, after, initial_state, pulse}
@@ -331,6 +331,7 @@ module _ (W : ℕ) (z : Sizes) (env : Setting) (sees : CanSee z env) where
   let_counted (Not' p a) s u k n w cs covered state number all = all
   let_counted (Choice' p t q a r b) s u k n w cs covered state number all = all
   let_counted (Least' p t) s u k n w cs covered state number all = all
+  let_counted (Sorted' p i q t) s u k n w cs covered state number all = all
   let_counted (Count' p t) s u k n w cs covered state number all =
       (record { state = u; says = state; covered = covered; number = number }, all)
 

@@ -16,7 +16,7 @@ use Rattle.rule_syntax.specs.declared.syntax.Operator.TheVariants.{Compute, Comp
 use Rattle.rule_syntax.specs.declared.syntax.Connective.{Connective}
 use Rattle.rule_syntax.specs.declared.syntax.Connective.TheVariants.{And, Or}
 use Rattle.rule_syntax.specs.declared.syntax.Term.{Term}
-use Rattle.rule_syntax.specs.declared.syntax.Term.TheVariants.{Number, Nodes, Faults, Modulus, Me, Coin, LoopNode, Local, Word, Message', Binary', Logical', Not', Choice', Count', Least'}
+use Rattle.rule_syntax.specs.declared.syntax.Term.TheVariants.{Number, Nodes, Faults, Modulus, Me, Coin, LoopNode, Local, Word, Message', Binary', Logical', Not', Choice', Count', Least', Sorted'}
 use Rattle.rule_nodes.specs.Meaning.{NodeState, apply, compare, bit_of, truth, apply_operator, combine, count_below, word_at, message_from, value}
 use Rattle.rule_nodes.specs.Code.{opposite}
 use Rattle.rule_nodes.proofs.Small.{apply_small, number_small, opposed, truth_of}
@@ -199,6 +199,7 @@ found_grows around (Choice' p t q a r b) s k =
     )
 found_grows around (Count' p t) s k = omega arith
 found_grows around (Least' p t) s k = omega arith
+found_grows around (Sorted' p i q t) s k = omega arith
 
 value_grows : (around : Option Around) (t : Term) (s : Store) (k : ℕ) → k ≤ (numbered (found_term around t s k)).next
 value_grows around t s k =
@@ -492,6 +493,7 @@ module _ (W : ℕ) (z : Sizes) (env : Setting) (sees : CanSee z env) where
       (agree_self k v) (omega arith) (omega (arith, few, sees.nodes)) (λ w same. tt)
       (λ w same here. omega (arith, few, here, st.sizes.nodes w same))
   term_found around J (Least' p t) s u k v fits loop st = absurd fits
+  term_found around J (Sorted' p i q t) s u k v fits loop st = absurd fits
 
   pub term_value : (around : Option Around) (J : List ℕ) (t : Term) (s : Store) (u : NodeState) (k : ℕ) (v : Numbers)
       → TermIsCovered W (length J) t → IsLoop W z env k v around J → StoreSays W z env k v s u

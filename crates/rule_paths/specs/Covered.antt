@@ -6,7 +6,7 @@ use Rattle.rule_syntax.specs.declared.syntax.Target.TheVariants.{ToLocal, ToWord
 use Rattle.rule_syntax.specs.declared.syntax.Assignment.{Assignment}
 use Rattle.rule_syntax.specs.declared.syntax.Assignment.TheVariants.{One, Also'}
 use Rattle.rule_syntax.specs.declared.syntax.Term.{Term}
-use Rattle.rule_syntax.specs.declared.syntax.Term.TheVariants.{Number, Nodes, Faults, Modulus, Me, Coin, LoopNode, Local, Word, Message', Binary', Logical', Not', Choice', Count', Least'}
+use Rattle.rule_syntax.specs.declared.syntax.Term.TheVariants.{Number, Nodes, Faults, Modulus, Me, Coin, LoopNode, Local, Word, Message', Binary', Logical', Not', Choice', Count', Least', Sorted'}
 use Rattle.rule_syntax.specs.declared.syntax.Statement.{Statement}
 use Rattle.rule_syntax.specs.declared.syntax.Statement.TheVariants.{Nothing, Then', Let', Assign, If', For', SendAll, SendTo}
 
@@ -29,6 +29,7 @@ TermIsCovered words loops (Choice' p t q a r b) =
     TermIsCovered words loops t × TermIsCovered words loops a × TermIsCovered words loops b
 TermIsCovered words loops (Count' p t) = TermIsCovered words (loops + 1) t
 TermIsCovered words loops (Least' p t) = ⊥
+TermIsCovered words loops (Sorted' p k q t) = ⊥
 
 abbrev pub TargetIsCovered : ℕ → Target → Type 0
 TargetIsCovered words (ToLocal k) = Unit {0}

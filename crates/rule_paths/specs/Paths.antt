@@ -13,7 +13,7 @@ use Rattle.rule_syntax.specs.declared.syntax.Target.TheVariants.{ToLocal, ToWord
 use Rattle.rule_syntax.specs.declared.syntax.Assignment.{Assignment}
 use Rattle.rule_syntax.specs.declared.syntax.Assignment.TheVariants.{One, Also'}
 use Rattle.rule_syntax.specs.declared.syntax.Term.{Term}
-use Rattle.rule_syntax.specs.declared.syntax.Term.TheVariants.{Number, Nodes, Faults, Modulus, Me, Coin, LoopNode, Local, Word, Message', Binary', Logical', Not', Choice', Count', Least'}
+use Rattle.rule_syntax.specs.declared.syntax.Term.TheVariants.{Number, Nodes, Faults, Modulus, Me, Coin, LoopNode, Local, Word, Message', Binary', Logical', Not', Choice', Count', Least', Sorted'}
 use Rattle.rule_syntax.specs.declared.syntax.Statement.{Statement}
 use Rattle.rule_syntax.specs.declared.syntax.Statement.TheVariants.{Nothing, Then', Let', Assign, If', For', SendAll, SendTo}
 use Rattle.rule_nodes.specs.Code.{opposite}
@@ -197,6 +197,7 @@ found_term around (Choice' p t q a r b) s k =
     found_choice x y (numbered (found_term around b s y.next))
 found_term around (Count' p t) s k = counted k
 found_term around (Least' p t) s k = any_number k
+found_term around (Sorted' p i q t) s k = any_number k
 
 -- ---- statements
 

@@ -1,10 +1,10 @@
 -- The code of a rule, and whether it fits, don't depend on where its boxes lie: rules of one form have the same.
-use Rattle.std.proofs.Common.{◌≡◌, ℕ, ◌+◌, ◌<◌, ◌&&◌, ◌||◌, not, false, if◌then◌else◌, List, [], ◌∷◌, ◌++◌, None, refl, ap, sym, subst, ◌∙◌, Box, Global}
+use Rattle.std.proofs.Common.{◌≡◌, ℕ, ◌+◌, ◌<◌, ◌≤◌, ◌&&◌, ◌||◌, not, true, false, if◌then◌else◌, List, [], ◌∷◌, ◌++◌, None, refl, ap, sym, subst, ◌∙◌, Box, Global}
 use denote.RawPtr.{null_ptr}
 use Rattle.bpf_insn.specs.declared.forms.Insn.{Insn}
 use Rattle.rule_nodes.specs.Meaning.{apply_operator}
 use Rattle.rule_nodes.specs.Operands.{is_constant, is_fetched, is_local, is_operand, is_asked, is_steady, depth_behind, constant_number, fetched_source, term_source}
-use Rattle.rule_nodes.specs.Code.{number_place, by_value, by_test, binary_code, choice_code, decides, both_code, message_by, tallied_code, tally_code, tally_test, term_code, given_code, change_place, change_by, changing_insn, one_code, also_code, assignment_code, stored_code, send_all_code, send_to_constant_code, send_to_code, each_code, if_code, is_nothing, let_code, block_code, head_code, tail_code, rule_code}
+use Rattle.rule_nodes.specs.Code.{number_place, by_value, by_test, binary_code, choice_code, decides, both_code, message_by, tallied_code, tally_code, tally_test, sorted_code, term_code, given_code, change_place, change_by, changing_insn, one_code, also_code, assignment_code, stored_code, send_all_code, send_to_constant_code, send_to_code, each_code, if_code, is_nothing, let_code, block_code, head_code, tail_code, rule_code}
 use Rattle.rule_nodes.specs.Fits.{HasPlace, Fits, TargetFits, AssignmentFits, BlockFits}
 use Rattle.rule_syntax.specs.declared.syntax.Operator.{Operator}
 use Rattle.rule_syntax.specs.declared.syntax.Operator.TheVariants.{Compute, Compare}
@@ -19,10 +19,10 @@ use Rattle.rule_nodes.specs.declared.numbers.Tally.TheVariants.{HowMany, LeastMe
 use Rattle.rule_syntax.specs.declared.syntax.Assignment.{Assignment}
 use Rattle.rule_syntax.specs.declared.syntax.Assignment.TheVariants.{One, Also'}
 use Rattle.rule_syntax.specs.declared.syntax.Term.{Term}
-use Rattle.rule_syntax.specs.declared.syntax.Term.TheVariants.{Number, Nodes, Faults, Modulus, Me, Coin, LoopNode, Local, Word, Message', Binary', Logical', Not', Choice', Count', Least'}
+use Rattle.rule_syntax.specs.declared.syntax.Term.TheVariants.{Number, Nodes, Faults, Modulus, Me, Coin, LoopNode, Local, Word, Message', Binary', Logical', Not', Choice', Count', Least', Sorted'}
 use Rattle.rule_syntax.specs.declared.syntax.Statement.{Statement}
 use Rattle.rule_syntax.specs.declared.syntax.Statement.TheVariants.{Nothing, Then', Let', Assign, If', For', SendAll, SendTo}
-use Rattle.rule_text.specs.Forms.{TermForm, number, nodes, faults, modulus, me, coin, loop_node, local, word, message, binary, logical, inverse, choice, count, least, AssignmentForm, one, also, StatementForm, nothing, sequence, let_in, assign, branch, each, send_all, send_to, term_form, assignment_form, statement_form}
+use Rattle.rule_text.specs.Forms.{TermForm, number, nodes, faults, modulus, me, coin, loop_node, local, word, message, binary, logical, inverse, choice, count, least, sorted, AssignmentForm, one, also, StatementForm, nothing, sequence, let_in, assign, branch, each, send_all, send_to, term_form, assignment_form, statement_form}
 
 -- ---- a rule of each form, whose boxes lie nowhere, for an allocator g
 
@@ -46,6 +46,7 @@ term_of g (inverse a) = Not' (nowhere g) (term_of g a)
 term_of g (choice t a b) = Choice' (nowhere g) (term_of g t) (nowhere g) (term_of g a) (nowhere g) (term_of g b)
 term_of g (count t) = Count' (nowhere g) (term_of g t)
 term_of g (least t) = Least' (nowhere g) (term_of g t)
+term_of g (sorted k t) = Sorted' (nowhere g) (term_of g k) (nowhere g) (term_of g t)
 
 abbrev assignment_of : Global → AssignmentForm → Assignment
 assignment_of g (one target e) = One target (term_of g e)
@@ -124,6 +125,9 @@ code_same g (Count' p t) z J d purpose =
 code_same g (Least' p t) z J d purpose =
     λ k. by_value purpose
     (tally_code LeastMessage d z.nodes (λ j. code_same g t z (J ++ j ∷ []) (d + 1) (tally_test LeastMessage d) k))
+code_same g (Sorted' p a q b) z J d purpose =
+    λ k. by_value purpose
+    (sorted_code (number_same g a z J k) d z.nodes (λ j. code_same g b z (J ++ j ∷ []) (d + j) Value k))
 code_same g Me z J d purpose = refl
 code_same g _ z J d purpose = refl
 
@@ -142,6 +146,9 @@ fits_same g (Choice' p t q a r b) z loops lets d =
     λ k. fits_same g t z loops lets d k × fits_same g a z loops lets d k × fits_same g b z loops lets d k
 fits_same g (Count' p t) z loops lets d = λ k. (d < PLACES) × fits_same g t z (loops + 1) lets (d + 1) k
 fits_same g (Least' p t) z loops lets d = λ k. (d < PLACES) × fits_same g t z (loops + 1) lets (d + 1) k
+fits_same g (Sorted' p a q b) z loops lets d =
+    λ k. (constant_same g a k ≡ true) × fits_same g a z loops lets d k × (d + z.nodes ≤ PLACES)
+    × fits_same g b z (loops + 1) lets (d + z.nodes) k
 fits_same g Me z loops lets d = refl
 fits_same g _ z loops lets d = refl
 

@@ -61,6 +61,9 @@ pub enum Term {
     Count(Box<Term>),
     /// The least message from a node for which the term holds, and no message if there is none.
     Least(Box<Term>),
+    /// The number at a place, from 0 on, among the numbers of the second term at all nodes in rising order; no message if
+    /// there is no such place. The first term is the place.
+    Sorted(Box<Term>, Box<Term>),
 }
 
 /// What an assignment sets.

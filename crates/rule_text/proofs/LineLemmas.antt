@@ -13,7 +13,7 @@ use Rattle.rule_text.specs.declared.joints.Joint.{Joint}
 use Rattle.rule_text.specs.declared.joints.Chain.{Chain}
 use Rattle.rule_text.specs.declared.joints.Chain.TheVariants as chains
 use Rattle.rule_text.specs.declared.lines.Spot.{Spot}
-use Rattle.rule_text.specs.declared.lines.Spot.TheVariants.{Front, Counting, AfterName, Inside}
+use Rattle.rule_text.specs.declared.lines.Spot.TheVariants.{Front, Counting, BeforeNode, Inside}
 use Rattle.rule_syntax.specs.declared.syntax.Comparison.{Comparison}
 use Rattle.rule_syntax.specs.declared.syntax.Target.{Target}
 use Rattle.rule_text.specs.Forms.{TermForm, AssignmentForm, StatementForm}
@@ -47,7 +47,7 @@ data Stage : Type 0 where
 
 abbrev IsAt : Stage → Spot → Type 0
 IsAt (at spot) p = p ≡ spot
-IsAt resting p = (p ≡ Inside) ⊎ (p ≡ AfterName)
+IsAt resting p = (p ≡ Inside) ⊎ (p ≡ BeforeNode)
 
 -- from this spot on the tokens begin n statements, and lead to a stage
 record Scanned (to : Stage) (n : ℕ) (ts : List Token) (spot : Spot) : Type 0 where
@@ -61,9 +61,12 @@ record Scans (from to : Stage) (n : ℕ) (ts : List Token) : Type 0 where
 scans_none : (stage : Stage) → Scans stage stage 0 []
 scans_none stage = record { scanned = λ spot is. record { lines = refl; ends = is } }
 
--- the end of a term
+-- the end of a term, and of one that ends with a square bracket
 scans_end : Scans (at Inside) resting 0 []
 scans_end = record { scanned = λ spot is. record { lines = refl; ends = inl is } }
+
+scans_bracket : Scans (at BeforeNode) resting 0 []
+scans_bracket = record { scanned = λ spot is. record { lines = refl; ends = inr is } }
 
 scans_as : {from to : Stage} {m n : ℕ} {ts : List Token} → m ≡ n → Scans from to m ts → Scans from to n ts
 scans_as e a = record {
@@ -74,10 +77,10 @@ scans_as e a = record {
 scans_inside : {to : Stage} {n : ℕ} {ts : List Token} → Scans resting to n ts → Scans (at Inside) to n ts
 scans_inside a = record { scanned = λ spot is. a.scanned spot (inl is) }
 
-scans_after_name : {to : Stage} {n : ℕ} {ts : List Token} → Scans resting to n ts → Scans (at AfterName) to n ts
+scans_after_name : {to : Stage} {n : ℕ} {ts : List Token} → Scans resting to n ts → Scans (at BeforeNode) to n ts
 scans_after_name a = record { scanned = λ spot is. a.scanned spot (inr is) }
 
-scans_resting : {to : Stage} {n : ℕ} {ts : List Token} → Scans (at Inside) to n ts → Scans (at AfterName) to n ts
+scans_resting : {to : Stage} {n : ℕ} {ts : List Token} → Scans (at Inside) to n ts → Scans (at BeforeNode) to n ts
     → Scans resting to n ts
 scans_resting a b = record {
   scanned = λ spot is. elim is [ inl inside ↦ a.scanned spot inside | inr named ↦ b.scanned spot named ];
@@ -138,17 +141,17 @@ quiet {kind = kind} spot mid t is none next a =
 
 -- nor does one after a name
 inner : {kind : Kind} {mid : Spot} {to : Stage} {n : ℕ} {ts : List Token} (t : Token) → s.HasKind kind t
-    → spot_after Inside kind ≡ mid → spot_after AfterName kind ≡ mid → Scans (at mid) to n ts
+    → spot_after Inside kind ≡ mid → spot_after BeforeNode kind ≡ mid → Scans (at mid) to n ts
     → Scans resting to n (t ∷ ts)
 inner {kind = kind} {mid = mid} t is next later a =
     scans_resting (quiet {kind = kind} Inside mid t is (λ u. refl) next a)
-    (quiet {kind = kind} AfterName mid t is (λ u. refl) later a)
+    (quiet {kind = kind} BeforeNode mid t is (λ u. refl) later a)
 
 -- a name
 called : {name : Name} {to : Stage} {n : ℕ} {ts : List Token} (t : Token) → s.HasKind (Named name) t
     → Scans resting to n ts → Scans (at Inside) to n (t ∷ ts)
 called {name = name} t is a =
-    quiet {kind = Named name} Inside AfterName t is (λ u. refl) refl (scans_after_name a)
+    quiet {kind = Named name} Inside BeforeNode t is (λ u. refl) refl (scans_after_name a)
 
 front_line : (u : Token) (kind : Kind) (b : Bool) → u.kind ≡ kind → begins_statement kind ≡ b
     → length (token_line Front u) ≡ (if b then 1 else 0)
@@ -205,17 +208,21 @@ also_from_front {to = to} {n = n} {ts = ts} t start a =
 -- a line goes on after a token of this kind, which isn't a name
 record GoesOn (kind : Kind) : Type 0 where
   pub inside : spot_after Inside kind ≡ Inside
-  pub named : spot_after AfterName kind ≡ Inside
+  pub named : spot_after BeforeNode kind ≡ Inside
 
 joint_goes_on : (chain : Chain) (kind : Kind) (joint : Joint) → joint_of chain kind ≡ Some joint → GoesOn kind
 joint_goes_on chains.Product (Mark signs.Colon) joint e = absurd (let no : None ≡ Some joint = e in cc)
 joint_goes_on chains.Product (Mark signs.Count) joint e = absurd (let no : None ≡ Some joint = e in cc)
+joint_goes_on chains.Product (Mark signs.CloseSquare) joint e = absurd (let no : None ≡ Some joint = e in cc)
 joint_goes_on chains.Sum (Mark signs.Colon) joint e = absurd (let no : None ≡ Some joint = e in cc)
 joint_goes_on chains.Sum (Mark signs.Count) joint e = absurd (let no : None ≡ Some joint = e in cc)
+joint_goes_on chains.Sum (Mark signs.CloseSquare) joint e = absurd (let no : None ≡ Some joint = e in cc)
 joint_goes_on chains.Both (Mark signs.Colon) joint e = absurd (let no : None ≡ Some joint = e in cc)
 joint_goes_on chains.Both (Mark signs.Count) joint e = absurd (let no : None ≡ Some joint = e in cc)
+joint_goes_on chains.Both (Mark signs.CloseSquare) joint e = absurd (let no : None ≡ Some joint = e in cc)
 joint_goes_on chains.Either (Mark signs.Colon) joint e = absurd (let no : None ≡ Some joint = e in cc)
 joint_goes_on chains.Either (Mark signs.Count) joint e = absurd (let no : None ≡ Some joint = e in cc)
+joint_goes_on chains.Either (Mark signs.CloseSquare) joint e = absurd (let no : None ≡ Some joint = e in cc)
 joint_goes_on chain LineStart joint e = absurd (let no : None ≡ Some joint = e in cc)
 joint_goes_on chain (Named name) joint e = absurd (let no : None ≡ Some joint = e in cc)
 joint_goes_on chain kind joint e = record { inside = refl; named = refl }
@@ -223,6 +230,7 @@ joint_goes_on chain kind joint e = record { inside = refl; named = refl }
 comparison_goes_on : (kind : Kind) (comparison : Comparison) → comparison_of kind ≡ Some comparison → GoesOn kind
 comparison_goes_on (Mark signs.Colon) comparison e = absurd (let no : None ≡ Some comparison = e in cc)
 comparison_goes_on (Mark signs.Count) comparison e = absurd (let no : None ≡ Some comparison = e in cc)
+comparison_goes_on (Mark signs.CloseSquare) comparison e = absurd (let no : None ≡ Some comparison = e in cc)
 comparison_goes_on LineStart comparison e = absurd (let no : None ≡ Some comparison = e in cc)
 comparison_goes_on (Named name) comparison e = absurd (let no : None ≡ Some comparison = e in cc)
 comparison_goes_on kind comparison e = record { inside = refl; named = refl }
@@ -230,6 +238,7 @@ comparison_goes_on kind comparison e = record { inside = refl; named = refl }
 leaf_goes_on : (sign : Sign) (a : TermForm) → leaf_of sign ≡ Some a → GoesOn (Mark sign)
 leaf_goes_on signs.Colon a e = absurd (let no : None ≡ Some a = e in cc)
 leaf_goes_on signs.Count a e = absurd (let no : None ≡ Some a = e in cc)
+leaf_goes_on signs.CloseSquare a e = absurd (let no : None ≡ Some a = e in cc)
 leaf_goes_on sign a e = record { inside = refl; named = refl }
 
 abbrev Quiet : List Token → Type 0
@@ -252,14 +261,18 @@ module _ (text : List ℕ) where
       quiet {kind = Named new.name} Counting Counting n new.named (λ u. refl) refl
       (quiet {kind = Mark signs.Colon} Counting Inside d colon (λ u. refl) refl a)
 
-  -- and after the word `least`
+  -- and of the name after `least`, or after the bracket of `sorted`
+  node : (n d : Token) {maker : _} {names more : List Entry} {ts : List Token} → s.IsNew text maker names n more
+      → s.IsSign signs.Colon d → Quiet ts → Scans (at BeforeNode) resting 0 (n ∷ d ∷ ts)
+  node n d new colon a =
+      quiet {kind = Named new.name} BeforeNode Counting n new.named (λ u. refl) refl
+      (quiet {kind = Mark signs.Colon} Counting Inside d colon (λ u. refl) refl a)
+
   counting_least : (l n d : Token) {letters : List ℕ} {maker : _} {names more : List Entry} {ts : List Token}
       → s.IsNameOf text letters l → s.IsNew text maker names n more → s.IsSign signs.Colon d → Quiet ts
       → Quiet (l ∷ n ∷ d ∷ ts)
   counting_least l n d word new colon a =
-      quiet {kind = Named word.name} Inside AfterName l word.named (λ u. refl) refl
-      (quiet {kind = Named new.name} AfterName Counting n new.named (λ u. refl) refl
-      (quiet {kind = Mark signs.Colon} Counting Inside d colon (λ u. refl) refl a))
+      quiet {kind = Named word.name} Inside BeforeNode l word.named (λ u. refl) refl (node n d new colon a)
 
   -- one token, and more of the line
   leaf_scans : {to : Stage} {n : ℕ} {names : List Entry} {ts : List Token} {a : TermForm} (t : Token)
@@ -277,6 +290,9 @@ module _ (source : SourceForm) where
       scans_both (term_scans x) (inner _ i refl refl (scans_both (term_scans t) (inner _ e refl refl (term_scans y))))
   term_scans (s.counted c n d h) = inside _ c refl (counting source.text _ _ n d (term_scans h))
   term_scans (s.least_of l n d h) = counting_least source.text _ _ _ l n d (term_scans h)
+  term_scans (s.sorted_at w o k fixed c n d h) =
+      inside _ w refl (inside _ o refl (scans_both (term_scans k)
+      (inner _ c refl refl (node source.text _ _ n d (term_scans h)))))
   term_scans (s.joined o x e y) =
       scans_both (term_scans x) (operator o _ (joint_goes_on _ o.kind _ e) (term_scans y))
   term_scans (s.not_so o h) = inside _ o refl (term_scans h)
@@ -284,9 +300,9 @@ module _ (source : SourceForm) where
       scans_both (term_scans x) (operator o _ (comparison_goes_on o.kind _ e) (term_scans y))
   term_scans (s.leaf one) = leaf_scans source.text _ one (scans_none resting)
   term_scans (s.looked_up is e o one c) =
-      called _ is (inner _ o refl refl (leaf_scans source.text _ one (inner _ c refl refl scans_end)))
+      called _ is (inner _ o refl refl (leaf_scans source.text _ one (inner _ c refl refl scans_bracket)))
   term_scans (s.received m o h c) =
-      inside _ m refl (inside _ o refl (scans_both (term_scans h) (inner _ c refl refl scans_end)))
+      inside _ m refl (inside _ o refl (scans_both (term_scans h) (inner _ c refl refl scans_bracket)))
   term_scans (s.bracketed o h c) = inside _ o refl (scans_both (term_scans h) (inner _ c refl refl scans_end))
 
   -- ---- statements without blocks
@@ -412,7 +428,7 @@ module _ (text : List ℕ) where
   table_scans h =
       subst (λ (ts : List Token). Quiet ts) (sym h.tokens)
       (called h.name h.is_new.named (inner h.becomes h.is_becomes refl refl (inside h.opening h.is_opening refl
-      (scans_both (cells_scan h.are_cells) (inner h.closing h.is_closing refl refl scans_end)))))
+      (scans_both (cells_scan h.are_cells) (inner h.closing h.is_closing refl refl scans_bracket)))))
 
   header_scans : {column : ℕ} {before all : HeaderForm} {ts : List Token} → s.IsHeader text column before ts all
       → Scans resting resting 0 ts

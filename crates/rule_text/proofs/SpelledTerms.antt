@@ -30,10 +30,10 @@ use Rattle.rule_text.specs.declared.terms.Grade.{Grade}
 use Rattle.rule_text.specs.declared.terms.Grade.TheVariants.{Whole, Inverse}
 use Rattle.rule_text.specs.declared.terms.TheConstants.{MAX_PARTS}
 use Rattle.rule_text.specs.Signs.{sign_text, sign_of, is_same}
-use Rattle.rule_text.specs.Forms.{TermForm, number, message, binary, inverse, choice}
+use Rattle.rule_text.specs.Forms.{TermForm, number, message, binary, inverse, choice, sorted, is_constant}
 use Rattle.rule_text.specs.Tables.{SourceForm, table_at, table_term}
 use Rattle.rule_text.specs.Scopes.{◌>>=◌, rule_error_at, error_in, letters_of, meaning_of, scope_entry, next_meaning, added, named_entry_by, named_entry, new_name}
-use Rattle.rule_text.specs.Terms.{is_of_sign, rest_after, wanted, joint_of, comparison_of, joint_in, comparison_in, is_least, begins_with_name, after_least, aggregate_in, aggregated, join, named_term, leaf_of, Reader, Inner, leaf, named_leaf, leaf_by, leaf_read, lookup_read, named_atom, bracketed, message_read, marked_atom, atom_by, atom, chain_step, chain_rest, chain_of, compare_rest, compare_read, inverse_read, operand_read, chain_read, choice_read, choice_rest, aggregate_read, plain_read, whole_read, part, term_read}
+use Rattle.rule_text.specs.Terms.{is_of_sign, rest_after, wanted, joint_of, comparison_of, joint_in, comparison_in, is_least, begins_with_name, after_least, aggregate_in, aggregated, join, named_term, leaf_of, Reader, Inner, leaf, named_leaf, leaf_by, leaf_read, lookup_read, named_atom, bracketed, message_read, marked_atom, atom_by, atom, chain_step, chain_rest, chain_of, compare_rest, compare_read, inverse_read, operand_read, chain_read, choice_read, choice_rest, item_read, aggregate_read, constant_only, place_read, sorted_read, plain_read, other_read, whole_read, part, term_read}
 use Rattle.rule_text.specs.Spelling as s
 
 -- ---- readings
@@ -513,33 +513,92 @@ module _ (source : SourceForm) where
         took_front elses (λ o else_sign. took last (λ vs c. s.chosen a if_sign b else_sign c))))))))))
         (λ e. gives x (alone_reads s.whole names ts x is)))
 
-    aggregate_spelled : (aggregate : Aggregate) (more : List Entry) (t n c : Token) (us : List Token) (a : TermForm)
-        → IsAggregate source.text aggregate t → s.IsNew source.text makers.Loop names n more → s.IsSign signs.Colon c
-        → s.IsTerm source s.whole more us a → s.IsTerm source s.whole names (t ∷ n ∷ c ∷ us) (aggregated aggregate a)
-    aggregate_spelled aggregates.Count more t n c us a is new colon term = s.counted is new colon term
-    aggregate_spelled aggregates.Least more t n c us a is new colon term = s.least_of is new colon term
+    -- ---- terms of each node
+
+    -- the name of a node, a colon and a term
+    data IsItem : List Token → TermForm → Type 0 where
+      item : {more : List Entry} {ts : List Token} {n d : Token} {a : TermForm}
+          → s.IsNew source.text makers.Loop names n more → s.IsSign signs.Colon d → s.IsTerm source s.whole more ts a
+          → IsItem (n ∷ d ∷ ts) a
+
+    -- a constant in square brackets
+    data IsPlace : List Token → TermForm → Type 0 where
+      place : {ts : List Token} {o c : Token} {k : TermForm} → s.IsSign signs.OpenSquare o
+          → s.IsTerm source s.whole names ts k → is_constant k ≡ true → s.IsSign signs.CloseSquare c
+          → IsPlace (o ∷ (ts ++ (c ∷ []))) k
+
+    item_reads : (ts : List Token) → Reads (item_read inner source names ts) (λ x. Took ts x.1 (λ us. IsItem us x.0))
+    item_reads ts =
+        read_then (new_name source.text makers.Loop names ts) (λ more. wanted signs.Colon more.1
+        >>= λ rest. inner Whole more.0 rest) (new_reads source.text makers.Loop names ts)
+        (λ more new. read_then (wanted signs.Colon more.1) (λ rest. inner Whole more.0 rest)
+        (wanted_reads signs.Colon more.1)
+        (λ rest colons. implied (inner Whole more.0 rest) (spelled Whole more.0 rest)
+        (λ a is. took_new source.text new (λ n is_new. took_front colons (λ c colon. took is (λ us term.
+        item is_new colon term))))))
+
+    constant_reads : (k : TermForm) (ts : List Token) → Reads (constant_only k ts) (λ a. (a ≡ k) × (is_constant k ≡ true))
+    constant_reads k ts =
+        by_test (is_constant k) (Ok k) (Err (error_in Expected ts)) (λ fixed. gives k (refl, fixed))
+        (λ varies. fails (error_in Expected ts))
+
+    place_reads : (ts : List Token) → Reads (place_read inner names ts) (λ x. Took ts x.1 (λ us. IsPlace us x.0))
+    place_reads ts =
+        read_then (wanted signs.OpenSquare ts) (λ inside. inner Whole names inside >>= λ x. constant_only x.0 inside
+        >>= λ k. wanted signs.CloseSquare x.1 >>= λ rest. Ok (k, rest)) (wanted_reads signs.OpenSquare ts)
+        (λ inside opens. read_then (inner Whole names inside) (λ x. constant_only x.0 inside
+        >>= λ k. wanted signs.CloseSquare x.1 >>= λ rest. Ok (k, rest)) (spelled Whole names inside)
+        (λ x is. read_then (constant_only x.0 inside) (λ k. wanted signs.CloseSquare x.1 >>= λ rest. Ok (k, rest))
+        (constant_reads x.0 inside)
+        (λ k same. read_then (wanted signs.CloseSquare x.1) (λ rest. Ok (k, rest)) (wanted_reads signs.CloseSquare x.1)
+        (λ rest closes. gives (k, rest) (took_front opens (λ o opening. took_then is (λ us term.
+        took_front closes (λ c close. took_end (subst (λ (a : TermForm). IsPlace (o ∷ (us ++ (c ∷ []))) a) (sym same.0)
+        (place opening term same.1 close))))))))))
+
+    aggregate_spelled : (aggregate : Aggregate) (t : Token) (us : List Token) (a : TermForm)
+        → IsAggregate source.text aggregate t → IsItem us a
+        → s.IsTerm source s.whole names (t ∷ us) (aggregated aggregate a)
+    aggregate_spelled aggregates.Count t us a is (item new colon term) = s.counted is new colon term
+    aggregate_spelled aggregates.Least t us a is (item new colon term) = s.least_of is new colon term
 
     aggregate_reads : (kind : Aggregate) (t : Token) (ts : List Token) → IsAggregate source.text kind t
         → Reads (aggregate_read inner source names kind ts) (IsReading s.whole names (t ∷ ts))
     aggregate_reads kind t ts word =
-        read_then (new_name source.text makers.Loop names ts) (λ more. wanted signs.Colon more.1
-        >>= λ rest. inner Whole more.0 rest >>= λ a. Ok (aggregated kind a.0, a.1))
-        (new_reads source.text makers.Loop names ts)
-        (λ more new. read_then (wanted signs.Colon more.1) (λ rest. inner Whole more.0 rest
-        >>= λ a. Ok (aggregated kind a.0, a.1)) (wanted_reads signs.Colon more.1)
-        (λ rest colons. read_then (inner Whole more.0 rest) (λ a. Ok (aggregated kind a.0, a.1))
-        (spelled Whole more.0 rest)
-        (λ a is. gives (aggregated kind a.0, a.1) (took_more t (took_new source.text new (λ n is_new.
-        took_front colons (λ c colon. took is (λ us term.
-        aggregate_spelled kind more.0 t n c us a.0 word is_new colon term))))))))
+        read_then (item_read inner source names ts) (λ a. Ok (aggregated kind a.0, a.1)) (item_reads ts)
+        (λ a is. gives (aggregated kind a.0, a.1) (took_more t (took is (λ us numbers.
+        aggregate_spelled kind t us a.0 word numbers))))
+
+    sorted_spelled : (w : Token) (us vs : List Token) (k a : TermForm) → s.IsSign signs.Sorted w → IsPlace us k
+        → IsItem vs a → s.IsTerm source s.whole names (w ∷ (us ++ vs)) (sorted k a)
+    sorted_spelled w us vs k a word (place {ts = ks} {o = o} {c = c} opens term fixed closes)
+        (item {ts = ts} {n = n} {d = d} new colon body) =
+        subst (λ (l : List Token). s.IsTerm source s.whole names (w ∷ o ∷ l) (sorted k a))
+        (sym (append_assoc ks (c ∷ []) (n ∷ d ∷ ts))) (s.sorted_at word opens term fixed closes new colon body)
+
+    sorted_reads : (w : Token) (ts : List Token) → s.IsSign signs.Sorted w
+        → Reads (sorted_read inner source names ts) (IsReading s.whole names (w ∷ ts))
+    sorted_reads w ts word =
+        read_then (place_read inner names ts) (λ k. item_read inner source names k.1
+        >>= λ a. Ok (sorted k.0 a.0, a.1)) (place_reads ts)
+        (λ k constant. read_then (item_read inner source names k.1) (λ a. Ok (sorted k.0 a.0, a.1)) (item_reads k.1)
+        (λ a is. gives (sorted k.0 a.0, a.1) (took_more w (took_then constant (λ us at. took is (λ vs numbers.
+        sorted_spelled w us vs k.0 a.0 word at numbers))))))
+
+    other_reads : Operands s.whole (other_read inner source names)
+    other_reads ts =
+        by_option (rest_after signs.Sorted ts) (λ rest. sorted_read inner source names rest)
+        (plain_read inner source names ts)
+        (λ rest e. let f = after_front signs.Sorted ts rest e in
+        implied (sorted_read inner source names rest) (sorted_reads f.first rest f.sign)
+        (λ y is. took_of f.split is)) (λ e. plain_reads ts)
 
     whole_reads : Operands s.whole (whole_read inner source names)
     whole_reads ts =
         by_option (aggregate_in source.text ts) (λ x. aggregate_read inner source names x.0 x.1)
-        (plain_read inner source names ts)
+        (other_read inner source names ts)
         (λ x e. let f = aggregate_front source.text ts x e in
         implied (aggregate_read inner source names x.0 x.1) (aggregate_reads x.0 f.first x.1 f.is)
-        (λ y is. took_of f.split is)) (λ e. plain_reads ts)
+        (λ y is. took_of f.split is)) (λ e. other_reads ts)
 
   part_reads : (room : ℕ) → Spelled (part room source)
   unfolding part

@@ -1,5 +1,5 @@
 -- What terms, assignments and statements say, as plain data: `rule_syntax` keeps the same in boxes.
-use Rattle.std.specs.Prelude.{ℕ}
+use Rattle.std.specs.Prelude.{ℕ, Bool, true, false, ◌&&◌}
 use Rattle.rule_syntax.specs.declared.syntax.Operator.{Operator}
 use Rattle.rule_syntax.specs.declared.syntax.Connective.{Connective}
 use Rattle.rule_syntax.specs.declared.syntax.Target.{Target}
@@ -8,7 +8,7 @@ use Rattle.rule_syntax.specs.declared.syntax.Assignment.TheVariants.{One, Also'}
 use Rattle.rule_syntax.specs.declared.syntax.Term.{Term}
 use Rattle.rule_syntax.specs.declared.syntax.Term.TheVariants.{Number, Nodes, Faults, Modulus, Me, Coin, LoopNode}
 use Rattle.rule_syntax.specs.declared.syntax.Term.TheVariants.{Local, Word, Message', Binary', Logical', Not', Choice'}
-use Rattle.rule_syntax.specs.declared.syntax.Term.TheVariants.{Count', Least'}
+use Rattle.rule_syntax.specs.declared.syntax.Term.TheVariants.{Count', Least', Sorted'}
 use Rattle.rule_syntax.specs.declared.syntax.Statement.{Statement}
 use Rattle.rule_syntax.specs.declared.syntax.Statement.TheVariants.{Nothing, Then', Let', Assign, If', For', SendAll}
 use Rattle.rule_syntax.specs.declared.syntax.Statement.TheVariants.{SendTo}
@@ -32,6 +32,7 @@ pub data TermForm : Type 0 where
   choice : TermForm → TermForm → TermForm → TermForm
   count : TermForm → TermForm
   least : TermForm → TermForm
+  sorted : TermForm → TermForm → TermForm
 
 pub data AssignmentForm : Type 0 where
   one : Target → TermForm → AssignmentForm
@@ -64,6 +65,27 @@ term_form (Not' p a) = inverse (term_form a)
 term_form (Choice' p t q a r b) = choice (term_form t) (term_form a) (term_form b)
 term_form (Count' p t) = count (term_form t)
 term_form (Least' p t) = least (term_form t)
+term_form (Sorted' p k q t) = sorted (term_form k) (term_form t)
+
+-- a constant is a number, a size, the node of a loop, or computed of constants: the same for all nodes and pulses
+abbrev pub is_constant : TermForm → Bool
+is_constant (number v) = true
+is_constant nodes = true
+is_constant faults = true
+is_constant modulus = true
+is_constant me = false
+is_constant coin = false
+is_constant (loop_node i) = true
+is_constant (local k) = false
+is_constant (word k) = false
+is_constant (message a) = false
+is_constant (binary o a b) = is_constant a && is_constant b
+is_constant (logical c a b) = false
+is_constant (inverse a) = false
+is_constant (choice t a b) = false
+is_constant (count t) = false
+is_constant (least t) = false
+is_constant (sorted k t) = false
 
 -- a term of one token
 abbrev pub leaf_form : Leaf → TermForm

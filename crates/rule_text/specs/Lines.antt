@@ -5,20 +5,21 @@ use Rattle.rule_text.specs.declared.lexemes.Kind.{Kind}
 use Rattle.rule_text.specs.declared.lexemes.Kind.TheVariants.{Named, Mark, LineStart, TextEnd}
 use Rattle.rule_text.specs.declared.lexemes.Token.{Token}
 use Rattle.rule_text.specs.declared.lines.Spot.{Spot}
-use Rattle.rule_text.specs.declared.lines.Spot.TheVariants.{Front, Counting, AfterName, Inside}
+use Rattle.rule_text.specs.declared.lines.Spot.TheVariants.{Front, Counting, BeforeNode, Inside}
 use Rattle.rule_text.specs.Forms.{StatementForm, nothing, sequence, let_in, assign, branch, each, send_all, send_to}
 use Rattle.rule_text.specs.Tokens.{tokens_of}
 
 -- a statement can come at the start of a line, and after a colon that isn't that of an aggregate: before such a colon
--- are `count` and a name, or two names, of which the first is `least`
+-- is the name of a node. It comes after `count`, after another name, which is `least`, or after the bracket of `sorted`
 abbrev pub spot_after : Spot → Kind → Spot
 spot_after Counting (Mark signs.Colon) = Inside
 spot_after spot (Mark signs.Colon) = Front
 spot_after spot (Mark signs.Count) = Counting
 spot_after spot LineStart = Front
 spot_after Counting kind = Counting
-spot_after AfterName (Named name) = Counting
-spot_after spot (Named name) = AfterName
+spot_after spot (Mark signs.CloseSquare) = BeforeNode
+spot_after BeforeNode (Named name) = Counting
+spot_after spot (Named name) = BeforeNode
 spot_after spot kind = Inside
 
 -- the tokens that begin no statement there

@@ -1,6 +1,6 @@
 -- The texts that spell a rule (docs/RULES.md, "Terms", "Statements" and "Blocks"): each case is a production of the
 -- grammar, over tokens, with the names in scope. Nothing here says how a text is read.
-use Rattle.std.specs.Prelude.{◌≡◌, ℕ, ◌<◌, IsFalse, List, [], ◌∷◌, ◌++◌, length, codes, Some, None}
+use Rattle.std.specs.Prelude.{◌≡◌, ℕ, ◌<◌, IsTrue, IsFalse, List, [], ◌∷◌, ◌++◌, length, codes, Some, None}
 use Rattle.node_env.specs.declared.env.TheConstants.{NO_MAIL}
 use Rattle.rule_syntax.specs.declared.syntax.Comparison.{Comparison}
 use Rattle.rule_syntax.specs.declared.syntax.Operator.TheVariants.{Compare}
@@ -21,7 +21,7 @@ use Rattle.rule_text.specs.declared.scope.TheConstants.{MAX_NAMES}
 use Rattle.rule_text.specs.declared.joints.Joint.{Joint}
 use Rattle.rule_text.specs.declared.joints.Chain.{Chain}
 use Rattle.rule_text.specs.declared.joints.Chain.TheVariants as chains
-use Rattle.rule_text.specs.Forms.{TermForm, number, message, binary, inverse, choice, count, least}
+use Rattle.rule_text.specs.Forms.{TermForm, number, message, binary, inverse, choice, count, least, sorted, is_constant}
 use Rattle.rule_text.specs.Forms.{AssignmentForm, one, also}
 use Rattle.rule_text.specs.Forms.{StatementForm, nothing, sequence, let_in, assign, branch, each, send_all, send_to}
 use Rattle.rule_text.specs.Tables.{SourceForm, HeaderForm, no_header, source_with, table_at, table_term}
@@ -107,6 +107,11 @@ pub data IsTerm (source : SourceForm) : Level → List Entry → List Token → 
   least_of : {names more : List Entry} {ts : List Token} {l n d : Token} {a : TermForm}
       → IsNameOf source.text (codes "least") l → IsNew source.text makers.Loop names n more → IsSign signs.Colon d
       → IsTerm source whole more ts a → IsTerm source whole names (l ∷ n ∷ d ∷ ts) (least a)
+  -- "sorted" "[" place "]" name ":" term: the place is a constant, and can't use the name
+  sorted_at : {names more : List Entry} {ks ts : List Token} {w o c n d : Token} {k a : TermForm}
+      → IsSign signs.Sorted w → IsSign signs.OpenSquare o → IsTerm source whole names ks k → IsTrue (is_constant k)
+      → IsSign signs.CloseSquare c → IsNew source.text makers.Loop names n more → IsSign signs.Colon d
+      → IsTerm source whole more ts a → IsTerm source whole names (w ∷ o ∷ (ks ++ (c ∷ n ∷ d ∷ ts))) (sorted k a)
   -- a chain and one more operand: operators of one kind group from the left
   joined : {kind : Chain} {names : List Entry} {xs ys : List Token} {a b : TermForm} {joint : Joint} (o : Token)
       → IsTerm source (chain kind) names xs a → joint_of kind o.kind ≡ Some joint

@@ -1,5 +1,5 @@
 -- From tokens to terms (docs/RULES.md, "Terms"): the reading, or the first error.
-use Rattle.std.specs.Prelude.{ℕ, zero, suc, Bool, true, false, if◌then◌else◌, ◌&&◌, List, [], ◌∷◌, Option, Some, None}
+use Rattle.std.specs.Prelude.{ℕ, zero, suc, Bool, false, if◌then◌else◌, ◌&&◌, List, [], ◌∷◌, Option, Some, None}
 use Rattle.std.specs.Prelude.{codes, option_map, Result, Ok, Err}
 use Rattle.std.specs.Str.{bytes_eq}
 use Rattle.node_env.specs.declared.env.TheConstants.{NO_MAIL}
@@ -31,7 +31,7 @@ use Rattle.rule_text.specs.declared.terms.Grade.TheVariants.{Whole, Inverse}
 use Rattle.rule_text.specs.declared.terms.TheConstants.{MAX_PARTS}
 use Rattle.rule_text.specs.Signs.{is_same}
 use Rattle.rule_text.specs.Forms.{TermForm, number, nodes, faults, modulus, me, coin, loop_node, local, word, message}
-use Rattle.rule_text.specs.Forms.{binary, logical, inverse, choice, count, least}
+use Rattle.rule_text.specs.Forms.{binary, logical, inverse, choice, count, least, sorted, is_constant}
 use Rattle.rule_text.specs.Tables.{SourceForm, table_at, table_term}
 use Rattle.rule_text.specs.Tokens.{is_named}
 use Rattle.rule_text.specs.Scopes.{Reading, ◌>>=◌, rule_error_at, error_in, letters_of, meaning_of, new_name}
@@ -265,20 +265,46 @@ abbrev pub choice_rest : Inner → SourceForm → List Entry → TermForm → Re
 choice_rest inner source names x ts =
     elim (rest_after signs.If ts) [ Some rest ↦ choice_read inner source names x rest | None ↦ Ok (x, ts) ]
 
--- a name, a colon and a term
+-- the name of a node, a colon and a term, which can use the node
+abbrev pub item_read : Inner → SourceForm → List Entry → Reader
+item_read inner source names ts =
+    new_name source.text makers.Loop names ts >>= λ more. wanted signs.Colon more.1
+    >>= λ rest. inner Whole more.0 rest
+
 abbrev pub aggregate_read : Inner → SourceForm → List Entry → Aggregate → Reader
 aggregate_read inner source names aggregate ts =
-    new_name source.text makers.Loop names ts >>= λ more. wanted signs.Colon more.1
-    >>= λ rest. inner Whole more.0 rest >>= λ a. Ok (aggregated aggregate a.0, a.1)
+    item_read inner source names ts >>= λ a. Ok (aggregated aggregate a.0, a.1)
+
+-- a term that has to be a constant, and begins with these tokens
+abbrev pub constant_only : TermForm → List Token → Result TermForm ReadRuleError
+constant_only k ts = if is_constant k then Ok k else Err (error_in Expected ts)
+
+-- a constant in square brackets
+abbrev pub place_read : Inner → List Entry → Reader
+place_read inner names ts =
+    wanted signs.OpenSquare ts >>= λ inside. inner Whole names inside >>= λ x. constant_only x.0 inside
+    >>= λ k. wanted signs.CloseSquare x.1 >>= λ rest. Ok (k, rest)
+
+-- what follows `sorted`
+abbrev pub sorted_read : Inner → SourceForm → List Entry → Reader
+sorted_read inner source names ts =
+    place_read inner names ts >>= λ k. item_read inner source names k.1 >>= λ a. Ok (sorted k.0 a.0, a.1)
 
 abbrev pub plain_read : Inner → SourceForm → List Entry → Reader
 plain_read inner source names ts =
     chain_read inner source names chains.Either ts >>= λ x. choice_rest inner source names x.0 x.1
 
+-- a term that doesn't begin with `count` or `least`
+abbrev pub other_read : Inner → SourceForm → List Entry → Reader
+other_read inner source names ts = elim (rest_after signs.Sorted ts) [
+  | Some rest ↦ sorted_read inner source names rest
+  | None ↦ plain_read inner source names ts
+]
+
 abbrev pub whole_read : Inner → SourceForm → List Entry → Reader
 whole_read inner source names ts = elim (aggregate_in source.text ts) [
   | Some x ↦ aggregate_read inner source names x.0 x.1
-  | None ↦ plain_read inner source names ts
+  | None ↦ other_read inner source names ts
 ]
 
 -- a part, with at most this many in one another

@@ -1,12 +1,14 @@
-//! Aggregates over the nodes: `count` and `least`.
-ghost use Rattle.std.specs.Prelude.{◌≡◌, IfOk, Some, None, MatchOption};
-ghost use Rattle.rule_text.specs.Forms.{term_form, count, least};
+//! Aggregates over the nodes: `count`, `least` and `sorted`.
+ghost use Rattle.std.specs.Prelude.{◌≡◌, IfOk, IfErr, Ok, Err, Some, None, MatchOption};
+ghost use Rattle.rule_text.specs.Forms.{term_form, is_constant, count, least, sorted};
 ghost use Rattle.rule_text.specs.Terms.{is_least, begins_with_name, after_least, aggregate_in, aggregated};
+ghost use Rattle.rule_text.specs.Terms.{constant_only};
 
+use crate::errors::{ReadRuleError, RuleError};
 use crate::joints::after;
 use crate::layout::is_named;
 use crate::lexemes::{Kind, Token};
-use crate::scope::letters_of;
+use crate::scope::{error_in, letters_of};
 use crate::signs::Sign;
 use rule_syntax::Term;
 use std::alloc::{AllocError, Global};
@@ -86,4 +88,36 @@ pub fn aggregated(alloc: Global, aggregate: Aggregate, a: Term) -> Result<Term, 
         Aggregate::Count => count_of(alloc, a),
         Aggregate::Least => least_of(alloc, a),
     }
+}
+
+/// Returns true for a constant: a number, a size, the node of a loop, or computed of constants.
+fn is_constant(term: &Term) -> bool
+    ensures { result ≡ is_constant (term_form term.now) }
+{
+    match term {
+        Term::Number(_) | Term::Nodes | Term::Faults | Term::Modulus | Term::LoopNode(_) => true,
+        Term::Binary(_, a, b) => is_constant(a) && is_constant(b),
+        _ => false,
+    }
+}
+
+/// Returns a term that has to be a constant, and begins with these tokens.
+pub fn constant_only(term: Term, tokens: &[Token]) -> Result<Term, ReadRuleError>
+    ensures read { IfOk result (λ k. constant_only (term_form term) tokens.now ≡ Ok (term_form k)) }
+    ensures error { IfErr result (λ e. constant_only (term_form term) tokens.now ≡ Err e) }
+{
+    if is_constant(&term) {
+        Ok(term)
+    } else {
+        Err(error_in(RuleError::Expected, tokens))
+    }
+}
+
+/// Returns the term for the number at a place among those of an item.
+pub fn sorted_of(alloc: Global, place: Term, item: Term) -> Result<Term, AllocError>
+    ensures { IfOk result (λ t. term_form t ≡ sorted (term_form place) (term_form item)) }
+{
+    let at = Box::new(alloc, place)?;
+    let numbers = Box::new(alloc, item)?;
+    Ok(Term::Sorted(at, numbers))
 }

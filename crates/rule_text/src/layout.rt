@@ -10,7 +10,7 @@ use crate::signs::Sign;
 use std::alloc::{AllocError, Global};
 
 /// The most lines with tokens.
-pub const MAX_LINES: usize = 512;
+pub const MAX_LINES: usize = 2_048;
 
 /// The most tokens of a line; brackets join lines.
 pub const MAX_LINE_TOKENS: usize = 1_000;

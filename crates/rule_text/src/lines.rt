@@ -7,12 +7,13 @@ use crate::lexemes::{Kind, Token, lexemes};
 use crate::signs::Sign;
 use std::alloc::{AllocError, Global};
 
-/// Where a token is: where a statement can begin, in `count` or `least` before its colon, after a name, or elsewhere.
+/// Where a token is: where a statement can begin, in an aggregate before its colon, where a name would be the node of an
+/// aggregate (after another name, `least`, or after the bracket of `sorted`), or elsewhere.
 #[derive(Clone, Copy)]
 pub enum Spot {
     Front,
     Counting,
-    AfterName,
+    BeforeNode,
     Inside,
 }
 
@@ -29,8 +30,12 @@ fn spot_after(spot: Spot, kind: Kind) -> Spot
         Kind::LineStart => Spot::Front,
         Kind::Named(_) => match spot {
             Spot::Counting => Spot::Counting,
-            Spot::AfterName => Spot::Counting,
-            _ => Spot::AfterName,
+            Spot::BeforeNode => Spot::Counting,
+            _ => Spot::BeforeNode,
+        },
+        Kind::Mark(Sign::CloseSquare) => match spot {
+            Spot::Counting => Spot::Counting,
+            _ => Spot::BeforeNode,
         },
         _ => match spot {
             Spot::Counting => Spot::Counting,

@@ -22,7 +22,7 @@ use rule_syntax::{Statement, Term};
 use std::alloc::Global;
 
 /// The most steps from line to line: two for each line.
-pub const MAX_STEPS: u32 = 1_028;
+pub const MAX_STEPS: u32 = 4_100;
 
 /// What is read of lines: the rest of a block, or what follows `if` or `elif`.
 #[derive(Clone, Copy)]

@@ -5,9 +5,10 @@ ghost use Rattle.rule_text.specs.Forms.{term_form};
 ghost use Rattle.rule_text.specs.Tables.{source_form};
 ghost use Rattle.rule_text.specs.Terms.{bracketed, message_read, atom};
 ghost use Rattle.rule_text.specs.Terms.{compare_read, inverse_read, operand_read, chain_read};
-ghost use Rattle.rule_text.specs.Terms.{choice_read, aggregate_read, whole_read, part, term_read};
+ghost use Rattle.rule_text.specs.Terms.{choice_read, item_read, aggregate_read, place_read, sorted_read, other_read};
+ghost use Rattle.rule_text.specs.Terms.{whole_read, part, term_read};
 
-use crate::aggregates::{Aggregate, aggregate_in, aggregated};
+use crate::aggregates::{Aggregate, aggregate_in, aggregated, constant_only, sorted_of};
 use crate::errors::{ReadRuleError, RuleError};
 use crate::joints::{
     Chain, after, binary_of, choice_of, comparison_in, inverse_of, joined, joint_in, message_of,
@@ -222,7 +223,27 @@ fn choice<'a>(
     Ok((choice_of(alloc, test, first, second)?, rest))
 }
 
-/// Reads what follows the word of an aggregate.
+/// Reads the name of a node, a colon and a term, which can use the node.
+#[cycle(terms)]
+fn item<'a>(
+    alloc: Global,
+    source: &Source,
+    names: &[Entry],
+    tokens: &'a [Token],
+    room: u32,
+) -> Result<(Term, &'a [Token]), ReadRuleError>
+    ensures read { IfOk result (λ x. item_read (part room (source_form source.now)) (source_form source.now) names.now
+        tokens.now
+        ≡ Ok (term_form x.0, x.1.now)) }
+    ensures error { IfErr result (TellsError
+        (item_read (part room (source_form source.now)) (source_form source.now) names.now tokens.now)) }
+{
+    let (more, rest) = new_name(alloc, source.text, Maker::Loop, names, tokens)?;
+    let rest = wanted(Sign::Colon, rest)?;
+    part(alloc, source, &more, rest, Grade::Whole, room)
+}
+
+/// Reads what follows `count` or `least`.
 #[cycle(terms)]
 fn aggregate<'a>(
     alloc: Global,
@@ -238,10 +259,73 @@ fn aggregate<'a>(
     ensures error { IfErr result (TellsError
         (aggregate_read (part room (source_form source.now)) (source_form source.now) names.now kind tokens.now)) }
 {
-    let (more, rest) = new_name(alloc, source.text, Maker::Loop, names, tokens)?;
-    let rest = wanted(Sign::Colon, rest)?;
-    let (condition, rest) = part(alloc, source, &more, rest, Grade::Whole, room)?;
+    let (condition, rest) = item(alloc, source, names, tokens, room)?;
     Ok((aggregated(alloc, kind, condition)?, rest))
+}
+
+/// Reads a constant in square brackets.
+#[cycle(terms)]
+fn place<'a>(
+    alloc: Global,
+    source: &Source,
+    names: &[Entry],
+    tokens: &'a [Token],
+    room: u32,
+) -> Result<(Term, &'a [Token]), ReadRuleError>
+    ensures read { IfOk result (λ x. place_read (part room (source_form source.now)) names.now tokens.now
+        ≡ Ok (term_form x.0, x.1.now)) }
+    ensures error { IfErr result (TellsError (place_read (part room (source_form source.now)) names.now tokens.now)) }
+{
+    let inside = wanted(Sign::OpenSquare, tokens)?;
+    let (found, rest) = part(alloc, source, names, inside, Grade::Whole, room)?;
+    let at = constant_only(found, inside)?;
+    let rest = wanted(Sign::CloseSquare, rest)?;
+    Ok((at, rest))
+}
+
+/// Reads what follows `sorted`.
+#[cycle(terms)]
+fn sorted<'a>(
+    alloc: Global,
+    source: &Source,
+    names: &[Entry],
+    tokens: &'a [Token],
+    room: u32,
+) -> Result<(Term, &'a [Token]), ReadRuleError>
+    ensures read { IfOk result (λ x. sorted_read (part room (source_form source.now)) (source_form source.now) names.now
+        tokens.now
+        ≡ Ok (term_form x.0, x.1.now)) }
+    ensures error { IfErr result (TellsError
+        (sorted_read (part room (source_form source.now)) (source_form source.now) names.now tokens.now)) }
+{
+    let (at, rest) = place(alloc, source, names, tokens, room)?;
+    let (numbers, rest) = item(alloc, source, names, rest, room)?;
+    Ok((sorted_of(alloc, at, numbers)?, rest))
+}
+
+/// Reads a term that doesn't begin with `count` or `least`.
+#[cycle(terms)]
+fn other<'a>(
+    alloc: Global,
+    source: &Source,
+    names: &[Entry],
+    tokens: &'a [Token],
+    room: u32,
+) -> Result<(Term, &'a [Token]), ReadRuleError>
+    ensures read { IfOk result (λ x. other_read (part room (source_form source.now)) (source_form source.now) names.now
+        tokens.now
+        ≡ Ok (term_form x.0, x.1.now)) }
+    ensures error { IfErr result (TellsError
+        (other_read (part room (source_form source.now)) (source_form source.now) names.now tokens.now)) }
+{
+    if let Some(inside) = after(Sign::Sorted, tokens) {
+        return sorted(alloc, source, names, inside, room);
+    }
+    let (first, rest) = chain(alloc, source, names, tokens, Chain::Either, room)?;
+    match after(Sign::If, rest) {
+        Some(behind) => choice(alloc, source, names, first, behind, room),
+        None => Ok((first, rest)),
+    }
 }
 
 #[cycle(terms)]
@@ -261,11 +345,7 @@ fn whole<'a>(
     if let Some((kind, inside)) = aggregate_in(source.text, tokens) {
         return aggregate(alloc, source, names, inside, kind, room);
     }
-    let (first, rest) = chain(alloc, source, names, tokens, Chain::Either, room)?;
-    match after(Sign::If, rest) {
-        Some(behind) => choice(alloc, source, names, first, behind, room),
-        None => Ok((first, rest)),
-    }
+    other(alloc, source, names, tokens, room)
 }
 
 /// Reads a part, with room for this many in one another.

@@ -16,6 +16,8 @@ pub enum Uncovered {
     Receiver,
     /// The rule has a least message.
     Least,
+    /// The rule sorts numbers.
+    Sorted,
     /// There is a word or a free name beyond those of the step.
     Name,
 }
@@ -66,6 +68,7 @@ fn cover_term(t: &Term, words: u32, loops: u32) -> Result<(), Uncovered>
             cover_term(c, words, loops + 1)
         }
         Term::Least(_) => Err(Uncovered::Least),
+        Term::Sorted(_, _) => Err(Uncovered::Sorted),
     }
 }
 

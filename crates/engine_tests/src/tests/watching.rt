@@ -33,7 +33,17 @@ fn watched<R: Threads + Wait + Sync>(
     let bench = Bench::new(alloc, four.shape, four.rule)?;
     let mut steps = Vec::new(alloc);
     let mut watcher = Counted { left };
-    let run = run_events_watched(rt, alloc, &Open, 1, bench, events, &mut watcher, &mut steps);
+    let mut threads = TrackedThreads::of(rt);
+    let run = run_events_watched(
+        &mut threads,
+        alloc,
+        &Open,
+        1,
+        bench,
+        events,
+        &mut watcher,
+        &mut steps,
+    );
     Ok((steps, run))
 }
 

@@ -51,6 +51,11 @@ returns-in-Err-clause-alone g c one =
     subst (λ (f : WatchFault). IsNot NoThread f) (sym c.at.ensures)
     (not_that c.in-Err.halt c.loop-event.place NoThread (c.in-Err.ensures.alone one))
 
+pub returns-in-Err-clause-thread : goal.returns-in-Err-clause-thread
+returns-in-Err-clause-thread g c started =
+    subst (λ (f : WatchFault). IsNot NoThread f) (sym c.at.ensures)
+    (not_that c.in-Err.halt c.loop-event.place NoThread (c.in-Err.ensures.thread started))
+
 pub returns-in-Ok-memories_of-clause-run : goal.returns-in-Ok-memories_of-clause-run
 returns-in-Ok-memories_of-clause-run g c =
     let i = c.loop-event.invariant in

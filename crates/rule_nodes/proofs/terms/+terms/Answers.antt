@@ -1,8 +1,10 @@
-use Rattle.std.proofs.Common.{◌≡◌, ◌+◌, ◌≤◌, IfOk, List, length, subst, ap, arith, refl}
+use Rattle.std.proofs.Common.{◌≡◌, ◌+◌, ◌<◌, ◌≤◌, IfOk, List, length, subst, ap, arith, refl, rules}
+use Rattle.rule_nodes.specs.declared.numbers.TheConstants.{PLACES}
 use Rattle.bpf_insn.specs.declared.forms.Insn.{Insn}
 use Rattle.rule_nodes.specs.Code.{term_code}
-use Rattle.rule_nodes.proofs.Lengths.{error_longer, passed_on, message_part, left_part, right_part, left_within, right_within, count_part, least_part, test_part, tests_part}
-use Rattle.rule_nodes.proofs.Loops.{tally_kept, count_made, least_made}
+use Rattle.rule_nodes.proofs.Lengths.{error_longer, passed_on, message_part, left_part, right_part, left_within, right_within, count_part, least_part, sorted_part, test_part, tests_part, item_part, items_part}
+use Rattle.rule_nodes.proofs.FitsLess.{item_fits}
+use Rattle.rule_nodes.proofs.Loops.{tally_kept, count_made, least_made, items_kept, sorted_made}
 use Rattle.rule_nodes.proofs.terms.+terms.Goals as goal
 
 pub term-returns-in_err-index-in-Message-clause-long : goal.term-returns-in_err-index-in-Message-clause-long
@@ -92,3 +94,66 @@ tally_over-returns-in_err-codes-clause-long t c =
     c.in_ok-inner.ensures c.deref.ensures.value c.in_ok-test.ensures.code
     c.deref-in-loop-node.ensures.value c.in_ok-tallied.ensures c.loop-node.invariant.code))
     c.in_err-codes.ensures.long c.from_residual-in_err-codes.ensures.1
+
+pub sorted_at-term-requires : goal.sorted_at-term-requires
+sorted_at-term-requires t c =
+    let lt : c.loop-index.index < c.args.sizes.nodes = c.loop-index-test.true in
+    let deep : c.args.depth + c.loop-index.index ≤ PLACES = omega (arith, c.requires.deep, lt) in (
+      search rules,
+      (
+        c.requires.some,
+        (
+          c.requires.few,
+          (
+            c.requires.memory,
+            (
+              deep,
+              item_fits c.args.e.now c.args.sizes
+                  c.args.loops.now _ _ c.args.lets c.args.depth _ c.in_ok-inner.ensures c.deref.ensures.value lt
+                  c.requires.fits,
+            ),
+          ),
+        ),
+      ),
+    )
+
+pub sorted_at-returns-in_err-item-clause-long : goal.sorted_at-returns-in_err-item-clause-long
+sorted_at-returns-in_err-item-clause-long t c =
+    passed_on c.from_residual-in_err-item.result c.in_err-item.field-0.0 _ _
+    (item_part c.args.e.now c.args.sizes c.args.loops.now _ _ c.args.place c.args.depth _ c.in_ok-inner.ensures
+    c.deref.ensures.value (omega (arith, c.if-place-sizes.false)) c.loop-index-test.true) c.in_err-item.ensures.long
+    c.from_residual-in_err-item.ensures.1
+
+pub sorted_at-returns-in_err-items-clause-long : goal.sorted_at-returns-in_err-items-clause-long
+sorted_at-returns-in_err-items-clause-long t c =
+    let more : c.loop-index.index + 1 ≤ c.args.sizes.nodes = omega (arith, c.loop-index-test.true) in
+    passed_on c.from_residual-in_err-items.result c.in_err-items.field-0.0 _ _
+    (items_part c.args.e.now c.args.sizes c.args.loops.now c.args.place c.args.depth _ _
+    (omega (arith, c.if-place-sizes.false)) more
+    (items_kept c.args.e.now c.args.sizes c.args.loops.now _ _ c.args.depth _ _ _ _ _ c.in_ok-inner.ensures
+    c.deref.ensures.value c.in_ok-item.ensures.code c.deref-in-loop-index.ensures.value c.in_ok-with_item.ensures
+    c.loop-index.invariant.code)) c.in_err-items.ensures.long c.from_residual-in_err-items.ensures.1
+
+pub term-returns-in_err-code-in-Sorted-clause-long : goal.term-returns-in_err-code-in-Sorted-clause-long
+term-returns-in_err-code-in-Sorted-clause-long t c =
+    passed_on c.from_residual-in_err-code-in-Sorted.result c.in_err-code-in-Sorted.field-0.0 _ _
+    (sorted_part _ _ _ _ _ _ _ _ _ _ _ _ c.in-Sorted.is c.constant_of-place.ensures c.deref-in-Sorted.ensures
+    c.deref-in-Sorted-2.ensures) c.in_err-code-in-Sorted.ensures.long c.from_residual-in_err-code-in-Sorted.ensures.1
+
+pub term-returns-in_ok-by_value_of-in-Sorted-clause-code : goal.term-returns-in_ok-by_value_of-in-Sorted-clause-code
+term-returns-in_ok-by_value_of-in-Sorted-clause-code t c =
+    let total : c.in_ok-by_value_of-in-Sorted.field-0.items ≡ term_code c.args.t.now c.args.sizes c.args.loops.now
+    c.args.depth c.args.purpose = sorted_made _ _ _ _ _ _ _ _ _ _ _ _ _ _ c.in_ok-code-in-Sorted.ensures.code
+    c.constant_of-place.ensures c.deref-in-Sorted.ensures c.deref-in-Sorted-2.ensures c.in-Sorted.is
+    c.in_ok-by_value_of-in-Sorted.ensures in
+    subst (λ (x : List Insn). IfOk c.short-in-Sorted.result (λ y. y.items ≡ x)) total c.short-in-Sorted.ensures.code
+
+pub term-returns-in_ok-by_value_of-in-Sorted-clause-long : goal.term-returns-in_ok-by_value_of-in-Sorted-clause-long
+term-returns-in_ok-by_value_of-in-Sorted-clause-long t c =
+    let total : c.in_ok-by_value_of-in-Sorted.field-0.items ≡ term_code c.args.t.now c.args.sizes c.args.loops.now
+    c.args.depth c.args.purpose = sorted_made _ _ _ _ _ _ _ _ _ _ _ _ _ _ c.in_ok-code-in-Sorted.ensures.code
+    c.constant_of-place.ensures c.deref-in-Sorted.ensures c.deref-in-Sorted-2.ensures c.in-Sorted.is
+    c.in_ok-by_value_of-in-Sorted.ensures in
+    let same : length c.in_ok-by_value_of-in-Sorted.field-0.items ≡ length (term_code c.args.t.now c.args.sizes
+    c.args.loops.now c.args.depth c.args.purpose) = ap length total in
+    error_longer c.short-in-Sorted.result _ _ (omega (arith, same)) c.short-in-Sorted.ensures.long

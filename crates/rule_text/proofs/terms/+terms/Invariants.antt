@@ -33,11 +33,23 @@ decreases-inverse l = 20 * l.room + 8
 abbrev pub decreases-choice : goal.decreases-choice
 decreases-choice l = 20 * l.room + 13
 
+abbrev pub decreases-item : goal.decreases-item
+decreases-item l = 20 * l.room + 1
+
 abbrev pub decreases-aggregate : goal.decreases-aggregate
 decreases-aggregate l = 20 * l.room + 13
 
+abbrev pub decreases-place : goal.decreases-place
+decreases-place l = 20 * l.room + 1
+
+abbrev pub decreases-sorted : goal.decreases-sorted
+decreases-sorted l = 20 * l.room + 13
+
+abbrev pub decreases-other : goal.decreases-other
+decreases-other l = 20 * l.room + 14
+
 abbrev pub decreases-whole : goal.decreases-whole
-decreases-whole l = 20 * l.room + 14
+decreases-whole l = 20 * l.room + 15
 
 -- the operands so far, and what is left to read
 abbrev pub invariant-chain-loop-step : goal.invariant-chain-loop-step

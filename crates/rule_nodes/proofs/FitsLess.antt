@@ -1,0 +1,56 @@
+-- A term that fits at a depth fits at every lesser one.
+use Rattle.std.proofs.Common.{◌≡◌, ℕ, ◌+◌, ◌<◌, ◌≤◌, Bool, true, false, ◌||◌, List, [], ◌∷◌, ◌++◌, length, arith, subst, ap, length-append}
+use Rattle.rule_syntax.specs.declared.syntax.Sizes.{Sizes}
+use Rattle.rule_syntax.specs.declared.syntax.Term.{Term}
+use Rattle.rule_syntax.specs.declared.syntax.Term.TheVariants.{Number, Nodes, Faults, Modulus, Me, Coin, LoopNode, Local, Word, Message', Binary', Logical', Not', Choice', Count', Least', Sorted'}
+use Rattle.rule_nodes.specs.Operands.{is_operand, depth_behind}
+use Rattle.rule_nodes.specs.Fits.{HasPlace, Fits}
+
+place_less : (simple : Bool) (d e : ℕ) → d ≤ e → HasPlace simple e → HasPlace simple d
+place_less true d e le h = tt
+place_less false d e le h = omega (arith, le, h)
+
+behind_less : (steady : Bool) (d e : ℕ) → d ≤ e → depth_behind steady d ≤ depth_behind steady e
+behind_less true d e le = le
+behind_less false d e le = omega (arith, le)
+
+pub fits_less : (t : Term) (z : Sizes) (loops lets d e : ℕ) → d ≤ e → Fits t z loops lets e → Fits t z loops lets d
+fits_less (Number v) z loops lets d e le h = h
+fits_less Nodes z loops lets d e le h = h
+fits_less Faults z loops lets d e le h = h
+fits_less Modulus z loops lets d e le h = h
+fits_less Me z loops lets d e le h = h
+fits_less Coin z loops lets d e le h = h
+fits_less (LoopNode i) z loops lets d e le h = h
+fits_less (Local k) z loops lets d e le h = h
+fits_less (Word k) z loops lets d e le h = h
+fits_less (Message' p a) z loops lets d e le h = fits_less a z loops lets d e le h
+fits_less (Binary' o p a q b) z loops lets d e le h =
+    let found = is_operand a || is_operand b in (
+      place_less found d e le h.0,
+      fits_less a z loops lets d e le h.1,
+      fits_less b z loops lets (depth_behind found d) (depth_behind found e) (behind_less found d e le) h.2,
+    )
+fits_less (Logical' c p a q b) z loops lets d e le h =
+    (fits_less a z loops lets d e le h.0, fits_less b z loops lets d e le h.1)
+fits_less (Not' p a) z loops lets d e le h = fits_less a z loops lets d e le h
+fits_less (Choice' p t q a r b) z loops lets d e le h =
+    (fits_less t z loops lets d e le h.0, fits_less a z loops lets d e le h.1, fits_less b z loops lets d e le h.2)
+fits_less (Count' p t) z loops lets d e le h =
+    (omega (arith, le, h.0), fits_less t z (loops + 1) lets (d + 1) (e + 1) (omega (arith, le)) h.1)
+fits_less (Least' p t) z loops lets d e le h =
+    (omega (arith, le, h.0), fits_less t z (loops + 1) lets (d + 1) (e + 1) (omega (arith, le)) h.1)
+fits_less (Sorted' p k q t) z loops lets d e le h = (
+  h.0,
+  fits_less k z loops lets d e le h.1,
+  omega (arith, le, h.2),
+  fits_less t z (loops + 1) lets (d + z.nodes) (e + z.nodes) (omega (arith, le)) h.3,
+)
+
+-- the number of node n, as the compiler's variables have it
+pub item_fits : (e : Term) (z : Sizes) (J J1 J2 : List ℕ) (lets d n : ℕ) → J1 ≡ J ++ n ∷ [] → J2 ≡ J1 → n < z.nodes
+    → Fits e z (length J + 1) lets (d + z.nodes) → Fits e z (length J2) lets (d + n)
+item_fits e z J J1 J2 lets d n e1 e2 lt fits =
+    let more : length J + 1 ≡ length J2 = omega (arith, length-append J (n ∷ []), ap length e1, ap length e2) in
+    subst (λ (loops : ℕ). Fits e z loops lets (d + n)) more
+    (fits_less e z (length J + 1) lets (d + n) (d + z.nodes) (omega (arith, lt)) fits)
