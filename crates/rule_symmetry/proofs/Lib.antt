@@ -1,5 +1,6 @@
 pub mod Counts
 mod Least
+mod Ordered
 pub mod Terms
 pub mod Rules
 pub mod Sorting

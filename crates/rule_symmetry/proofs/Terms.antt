@@ -6,12 +6,13 @@ use Rattle.std.proofs.lemmas.Bool.{cases_eq, and_parts, ltb-true, both_ways}
 use Rattle.node_env.specs.Env.{Setting}
 use Rattle.rule_syntax.specs.declared.syntax.Sizes.{Sizes}
 use Rattle.rule_syntax.specs.declared.syntax.Term.{Term}
-use Rattle.rule_syntax.specs.declared.syntax.Term.TheVariants.{Number, Nodes, Faults, Modulus, Me, Coin, LoopNode, Local, Word, Message', Binary', Logical', Not', Choice', Count', Least'}
-use Rattle.rule_nodes.specs.Meaning.{NodeState, apply_operator, combine, bit_of, truth, count_below, least_below, word_at, message_from, value}
+use Rattle.rule_syntax.specs.declared.syntax.Term.TheVariants.{Number, Nodes, Faults, Modulus, Me, Coin, LoopNode, Local, Word, Message', Binary', Logical', Not', Choice', Count', Least', Sorted'}
+use Rattle.rule_nodes.specs.Meaning.{NodeState, apply_operator, combine, bit_of, truth, count_below, least_below, in_order, number_at_place, numbers_of_nodes, word_at, message_from, value}
 use Rattle.rule_symmetry.specs.Symmetry.{is_counted, is_symmetric_term}
 use Rattle.rule_symmetry.specs.Inboxes.{SeeAlike}
 use Rattle.rule_symmetry.proofs.Counts.{count_same, same_counts}
 use Rattle.rule_symmetry.proofs.Least.{least_alike, same_least}
+use Rattle.rule_symmetry.proofs.Ordered.{numbers_alike, same_place}
 
 abbrev said_by : Term → List ℕ → ℕ
 said_by (LoopNode i) M = slice_index M i
@@ -36,6 +37,8 @@ by_mail (Choice' p t q a r b) z env M u = if truth (by_mail t z env M u) then by
 by_mail (Count' p t) z env M u = count_below z.nodes (λ j. by_mail t z env (M ++ message_from z env j ∷ []) u)
 by_mail (Least' p t) z env M u =
     least_below z.nodes (λ j. by_mail t z env (M ++ message_from z env j ∷ []) u) (message_from z env)
+by_mail (Sorted' p k q e) z env M u = number_at_place (by_mail k z env M u)
+    (in_order (numbers_of_nodes z.nodes (λ j. by_mail e z env (M ++ message_from z env j ∷ []) u)))
 
 -- M has the messages from the nodes of J
 record AreFrom (z : Sizes) (env : Setting) (counts : ℕ) (J M : List ℕ) : Type 0 where
@@ -109,6 +112,13 @@ value_is (Least' p t) z env counts J M u ok are =
     (message_from z env)
     (λ j less. value_is t z env (counts + 1) (J ++ j ∷ []) (M ++ message_from z env j ∷ []) u both.1
     (one_more z env counts j J M are))
+value_is (Sorted' p k q e) z env counts J M u ok are =
+    let both = and_parts (nat_lt counts 3 && is_symmetric_term k counts) (is_symmetric_term e (counts + 1)) ok in
+    let front = and_parts (nat_lt counts 3) (is_symmetric_term k counts) both.0 in
+    ap₂ (λ (x : ℕ) (xs : List ℕ). number_at_place x (in_order xs)) (value_is k z env counts J M u front.1 are)
+    (numbers_alike z.nodes (λ j. value e z env (J ++ j ∷ []) u) (λ j. by_mail e z env (M ++ message_from z env j ∷ []) u)
+    (λ j less. value_is e z env (counts + 1) (J ++ j ∷ []) (M ++ message_from z env j ∷ []) u both.1
+    (one_more z env counts j J M are)))
 
 by_mail_same : (t : Term) (z : Sizes) (env other : Setting) (M : List ℕ) (u : NodeState) → SeeAlike z env other
     → by_mail t z env M u ≡ by_mail t z other M u
@@ -142,6 +152,13 @@ by_mail_same (Least' p t) z env other M u alike =
     (λ j. by_mail t z other (M ++ message_from z env j ∷ []) u) (message_from z env)
     (λ j less. by_mail_same t z env other (M ++ message_from z env j ∷ []) u alike)
     ∙ same_least z.nodes (message_from z env) (message_from z other) (λ m. by_mail t z other (M ++ m ∷ []) u) alike.mail
+by_mail_same (Sorted' p k q e) z env other M u alike =
+    ap₂ (λ (x : ℕ) (xs : List ℕ). number_at_place x (in_order xs)) (by_mail_same k z env other M u alike)
+    (numbers_alike z.nodes (λ j. by_mail e z env (M ++ message_from z env j ∷ []) u)
+    (λ j. by_mail e z other (M ++ message_from z env j ∷ []) u)
+    (λ j less. by_mail_same e z env other (M ++ message_from z env j ∷ []) u alike))
+    ∙ same_place z.nodes (message_from z env) (message_from z other) (λ m. by_mail e z other (M ++ m ∷ []) u) alike.mail
+    (by_mail k z other M u)
 
 pub value_alike : (t : Term) (z : Sizes) (env other : Setting) (u : NodeState) → is_symmetric_term t 0 ≡ true
     → SeeAlike z env other → value t z env [] u ≡ value t z other [] u

@@ -31,6 +31,11 @@ fn is_symmetric_term_of(t: &Term, counts: u32) -> bool
                 && is_symmetric_term_of(b, counts)
         }
         Term::Count(t) | Term::Least(t) => counts < 3 && is_symmetric_term_of(t, counts + 1),
+        Term::Sorted(k, e) => {
+            counts < 3
+                && is_symmetric_term_of(k, counts)
+                && is_symmetric_term_of(e, counts + 1)
+        }
     }
 }
 
