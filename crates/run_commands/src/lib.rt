@@ -21,8 +21,9 @@
 //! };
 //! let mut threads = TrackedThreads::of(&rt);
 //! let mut report = Tracked::of(Vec::new(rt.alloc()));
-//! let ending =
-//!     run(&mut threads, rt.alloc(), options, &scenario, &mut report).map_err(|_| "a fault")?;
+//! let ending = run(&mut threads, rt.alloc(), options, &scenario, &mut report).map_err(
+//!     |_| "a fault",
+//! )?;
 //! assert_eq!(rt; ending, Ending::Done);
 //! ```
 #![tactic(auto)]
