@@ -37,6 +37,7 @@ EXAMPLES = {
     "king": [HOLDS] * 7,
     "greatest": [REFUTED] * 2 + [HOLDS] * 3,
     "two_coins": [REFUTED] + [HOLDS] * 5,
+    "middle": [HOLDS],
 }
 # An edit of a rule or its claims, and the number of a step that it makes wrong.
 WRONG = [
@@ -57,6 +58,7 @@ WRONG = [
     ("two_coins", "n > 3 * f", "n >= 3 * f", 1),
     ("two_coins", "zeros >= n - f", "zeros >= n - f - 1", 1),
     ("two_coins", "coin c", "coin 1 - c", 3),
+    ("middle", "n - 1 - f", "n - f", 0),
 ]
 # Claims with an error, the error, and its note without the place.
 FAULTY = [
@@ -69,6 +71,8 @@ FAULTY = [
     ("set A: 1\nset A: 2", "NameTwice line 2 column 5", "set A: 2; A has a meaning already"),
     ("assume n >\nset A: 1", "Expected line 2 column 1",
      "expected a term, such as a number or a name at the end of line 1"),
+    ("set A: sorted[0] j: 1", "Expected line 1 column 8",
+     "set A: sorted[0] j: 1; sorted isn't part of claims: they have p.clock, p.sent"),
     ("assume n $", "BadCharacter line 1 column 10",
      "assume n $; no token begins with this byte, or a letter follows a number"),
     ("assume n", "Expected line 1 column 9",

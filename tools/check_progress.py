@@ -24,7 +24,7 @@ SEARCHED = re.compile(r"(\d+) states, (\d+) transitions, (\d+) s ")
 SWEPT = re.compile(r"(\d+) of (\d+) keys, (\d+) a second, (\d+) s left ")
 # The first numbers are for a build without a proof, the others for faster programs and machines.
 SEEDS = [200, 40_000, 160_000, 640_000, 2_560_000]
-STATES = [300, 12_000, 16_000, 20_000]
+SEARCHES = [(8, 1_000), (11, 12_000), (11, 16_000), (11, 20_000)]
 PULSES = [10, 1000]
 SIXTEEN = """nodes = 16
 faults = 5
@@ -32,7 +32,7 @@ modulus = 8
 memory = 8
 pulses = 10
 coins = "zeros"
-load = [{pulse = 1, nodes = [0, 1, 2, 3, 4, 5, 6, 7, 8, 9, 10], program = "clock"}]
+load = [{pulse = 1, nodes = LOADED, program = "clock"}]
 """
 # 64 nodes with 2,048 instructions each: a pulse is long enough for threads.
 LONG = f"""version = 4
@@ -79,9 +79,10 @@ def told_on_a_terminal(program, words, given):
 
 
 def searched(program):
-    """What a search showed, and the numbers of each line: of the first number of states that takes a second."""
-    for states in STATES:
-        told = told_on_a_terminal(program, ["explore", "--states", str(states)], SIXTEEN)
+    """What a search showed, and the numbers of each line: of the first search that takes a second."""
+    for nodes, states in SEARCHES:
+        given = SIXTEEN.replace("LOADED", str(list(range(nodes))))
+        told = told_on_a_terminal(program, ["explore", "--states", str(states)], given)
         lines = told.split("\r")[1:]
         counts = [tuple(map(int, found.groups())) for line in lines if (found := SEARCHED.match(line))]
         if counts:

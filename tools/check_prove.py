@@ -30,6 +30,7 @@ ZERO_CERTIFICATE = "step 2\nbegins 2 1 2 free 0 sent 0 words 1 0\nuses 0\nrefute
 OUTSIDE = [
     ("for j: clock = 0\nsend clock\n", "has a loop"),
     ("let x = least j: mail[j] < M\nclock = 0\nsend clock\n", "has a least message"),
+    ("let x = sorted[f] j: mail[j]\nclock = 0\nsend clock\n", "sorts numbers"),
     ("clock = 0\nsend clock to 1\n", "sends to one node"),
 ]
 # The steps that have a certificate, with the M at which each begins, and those that have none.

@@ -1,5 +1,5 @@
 -- What the run of a scenario's text leaves on its writer (docs/SCENARIOS.md, "Runs").
-use Rattle.std.specs.Prelude.{◌≡◌, ◌<◌, is_some, Bool, IsTrue, List, ℕ, length, take, Option, Result, Ok, Err}
+use Rattle.std.specs.Prelude.{◌≡◌, ◌≢◌, ◌<◌, is_some, Bool, IsTrue, List, ℕ, length, take, Option, Result, Ok, Err}
 use Rattle.std.specs.Io.KnownBytes.{Appends, Keeps}
 use Rattle.bench_core.specs.Setup.{Setup}
 use Rattle.bench_core.specs.Told.{PulseTold}
@@ -109,6 +109,12 @@ abbrev pub HasRunCause : (failed : Bool) → ReportFault → Type 0
 HasRunCause failed (report_faults.Run stop) = Unit {0}
 HasRunCause failed (report_faults.Write written) = IsTrue failed
 HasRunCause failed report_faults.Memory = Unit {0}
+
+-- the run of a report didn't stop for lack of a thread
+abbrev pub ReportHasThreads : ReportFault → Type 0
+ReportHasThreads (report_faults.Run stop) = stop.fault ≢ refusals.NoThread
+ReportHasThreads (report_faults.Write written) = Unit {0}
+ReportHasThreads report_faults.Memory = Unit {0}
 
 -- both of a scenario that left no whole report: whether a call of `read` failed, and whether one of `write` did
 abbrev pub HasReportCause : (unread unwritten : Bool) → ScenarioFault → Type 0

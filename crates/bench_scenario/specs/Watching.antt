@@ -1,5 +1,6 @@
 -- How the run of a scenario before a watcher ends early (docs/ARCHITECTURE.md, "Watchers of a run").
-use Rattle.std.specs.Prelude.{◌≡◌, List, take}
+use Rattle.std.specs.Prelude.{◌≡◌, ◌≢◌, List, take}
+use Rattle.bench_workers.specs.declared.event.RunRefusal.TheVariants.{NoThread}
 use Rattle.bench_workers.specs.Runs.{IsEventFault}
 use Rattle.bench_workers.specs.Watching.{Seen, StoppedAt, Watched}
 use Rattle.scenario_text.specs.declared.scenario.Scenario.{Scenario}
@@ -18,3 +19,9 @@ ScenarioEndsAt T E s k o k' o' (faults.Run fault) =
     IsEventFault (bench_of s) (events_of s) fault.event fault.fault × IsMemoryOrThread fault.fault
     × ((xs : List Seen) × Watched T (bench_of s) (take fault.event (events_of s)) k o xs k' o')
 ScenarioEndsAt T E s k o k' o' (faults.Stopped event) = StoppedAt T E (bench_of s) (events_of s) event k o k' o'
+
+-- the run didn't stop for lack of a thread
+abbrev pub WatchedHasThreads : WatchedFault → Type 0
+WatchedHasThreads faults.Memory = Unit {0}
+WatchedHasThreads (faults.Run fault) = fault.fault ≢ NoThread
+WatchedHasThreads (faults.Stopped event) = Unit {0}

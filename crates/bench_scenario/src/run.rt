@@ -1,9 +1,10 @@
 //! A scenario from the first byte that is read to the last that is written.
-ghost use Rattle.std.specs.Prelude.{◌≡◌, ◌+◌, ◌≤◌, ◌<◌, ℕ, Bool, List, Option, [], IfErr, IfOk, IfSome, MatchResult, string_bytes};
+ghost use Rattle.std.specs.Prelude.{◌≡◌, ◌+◌, ◌≤◌, ◌<◌, ℕ, Bool, false, List, Option, [], IfErr, IfOk, IfSome, MatchResult, string_bytes};
 ghost use Rattle.bench_core.specs.State.{new_state};
+ghost use Rattle.bench_workers.specs.ThreadStarts.{has_failed};
 ghost use Rattle.scenario_text.specs.Texts.{ReadsText};
 ghost use Rattle.stream_io.specs.Streams.{TakesAtMost};
-ghost use Rattle.bench_scenario.specs.Runs.{HasReportCause, HasRunCause, LeavesReport, LeavesRun, ReportsRun, StopsForWant, bench_of};
+ghost use Rattle.bench_scenario.specs.Runs.{HasReportCause, HasRunCause, LeavesReport, LeavesRun, ReportHasThreads, ReportsRun, StopsForWant, bench_of};
 ghost use Rattle.bench_scenario.specs.inner.Runs.{IsDueOfRun};
 
 use crate::paying::useful_workers;
@@ -71,7 +72,7 @@ pub(crate) fn bench_for(alloc: Global, scenario: &Scenario) -> Result<Bench, All
 
 /// Returns the report of the run of a scenario that was read.
 fn report_of<T: Threads + Wait + Sync>(
-    rt: &T,
+    threads: &mut TrackedThreads<'_, T>,
     alloc: Global,
     scenario: &Scenario,
     workers: u32,
@@ -79,8 +80,9 @@ fn report_of<T: Threads + Wait + Sync>(
     requires some { 1 ≤ workers }
     requires few { workers ≤ MAX_WORKERS }
     requires reads { (text : List ℕ) × ReadsText text scenario.now }
-    ensures { MatchResult result (λ told. ReportsRun scenario.now (string_bytes told.text) told.agrees)
+    ensures told { MatchResult result (λ told. ReportsRun scenario.now (string_bytes told.text) told.agrees)
         (IsDueOfRun scenario.now) }
+    ensures thread { has_failed threads.new.starts ≡ false → IfErr result ReportHasThreads }
 {
     let Ok(events) = events(alloc, scenario) else {
         return Err(ReportFault::Memory);
@@ -89,8 +91,7 @@ fn report_of<T: Threads + Wait + Sync>(
         return Err(ReportFault::Memory);
     };
     let workers = useful_workers(scenario, workers);
-    let mut threads = TrackedThreads::of(rt);
-    let run = match run_events_on(&mut threads, alloc, &Open, workers, bench, events) {
+    let run = match run_events_on(threads, alloc, &Open, workers, bench, events) {
         Ok(run) => run,
         Err(fault) => return Err(ReportFault::Run(fault)),
     };
@@ -101,9 +102,10 @@ fn report_of<T: Threads + Wait + Sync>(
 }
 
 /// Runs a scenario that was read, on as many of the workers as pay, and writes the report. Returns true if no pulse's
-/// verdict on agreement is no. The report is whole before its first byte is written.
+/// verdict on agreement is no. The report is whole before its first byte is written. `threads` tells whether a start of a
+/// thread failed.
 pub fn write_report<T: Threads + Wait + Sync, W: Sink>(
-    rt: &T,
+    threads: &mut TrackedThreads<'_, T>,
     alloc: Global,
     scenario: &Scenario,
     workers: u32,
@@ -114,8 +116,9 @@ pub fn write_report<T: Threads + Wait + Sync, W: Sink>(
     requires reads { (text : List ℕ) × ReadsText text scenario.now }
     ensures left { LeavesRun (W.contents writer.old) (W.contents writer.new) scenario.now result }
     ensures cause { IfErr result (HasRunCause (W.has_failed writer.new)) }
+    ensures thread { has_failed threads.new.starts ≡ false → IfErr result ReportHasThreads }
 {
-    let report = report_of(rt, alloc, scenario, workers)?;
+    let report = report_of(threads, alloc, scenario, workers)?;
     match write_fully(writer, report.text.as_bytes()) {
         Ok(()) => Ok(report.agrees),
         Err(WriteFault { written }) => Err(ReportFault::Write {
@@ -140,7 +143,8 @@ fn report_on<T: Threads + Wait + Sync, W: Sink>(
     ensures want { IfErr result StopsForWant }
     ensures cause { (unread : Bool) → IfErr result (HasReportCause unread (W.has_failed writer.new)) }
 {
-    match write_report(rt, alloc, scenario, workers, writer) {
+    let mut threads = TrackedThreads::of(rt);
+    match write_report(&mut threads, alloc, scenario, workers, writer) {
         Ok(_agrees) => Ok(()),
         Err(ReportFault::Run(fault)) => Err(ScenarioFault::Run(fault)),
         Err(ReportFault::Write { written }) => Err(ScenarioFault::Write { written }),

@@ -1,11 +1,12 @@
 //! The run of a scenario before a watcher.
-ghost use Rattle.std.specs.Prelude.{◌≡◌, ◌≤◌, ℕ, List, IfErr, IfOk, map};
+ghost use Rattle.std.specs.Prelude.{◌≡◌, ◌≤◌, ℕ, List, IfErr, IfOk, false, map};
 ghost use Rattle.bench_workers.specs.Runs.{IsRun};
+ghost use Rattle.bench_workers.specs.ThreadStarts.{has_failed};
 ghost use Rattle.bench_workers.specs.Watching.{Seen, Watched};
 ghost use Rattle.scenario_text.specs.Texts.{ReadsText};
 ghost use Rattle.bench_scenario.specs.Events.{events_of};
 ghost use Rattle.bench_scenario.specs.Runs.{bench_of};
-ghost use Rattle.bench_scenario.specs.Watching.{ScenarioEndsAt};
+ghost use Rattle.bench_scenario.specs.Watching.{ScenarioEndsAt, WatchedHasThreads};
 
 use crate::paying::useful_workers;
 use crate::run::bench_for;
@@ -29,9 +30,9 @@ pub enum WatchedFault {
 }
 
 /// Runs a scenario that was read, before a watcher that is shown each closed pulse and may stop it, on as many of the
-/// workers as pay.
+/// workers as pay. `threads` tells whether a start of a thread failed.
 pub fn run_watched<T: Threads + Wait + Sync, S, K: Watcher<S>>(
-    rt: &T,
+    threads: &mut TrackedThreads<'_, T>,
     alloc: Global,
     scenario: &Scenario,
     workers: u32,
@@ -48,6 +49,7 @@ pub fn run_watched<T: Threads + Wait + Sync, S, K: Watcher<S>>(
         sink.new) }
     ensures ends { IfErr result
         (ScenarioEndsAt K.tells K.stops scenario.now watcher.old sink.old watcher.new sink.new) }
+    ensures thread { has_failed threads.new.starts ≡ false → IfErr result WatchedHasThreads }
 {
     let Ok(events) = events(alloc, scenario) else {
         return Err(WatchedFault::Memory);
@@ -56,17 +58,7 @@ pub fn run_watched<T: Threads + Wait + Sync, S, K: Watcher<S>>(
         return Err(WatchedFault::Memory);
     };
     let workers = useful_workers(scenario, workers);
-    let mut threads = TrackedThreads::of(rt);
-    match run_events_watched(
-        &mut threads,
-        alloc,
-        &Open,
-        workers,
-        bench,
-        events,
-        watcher,
-        sink,
-    ) {
+    match run_events_watched(threads, alloc, &Open, workers, bench, events, watcher, sink) {
         Ok(run) => Ok(run),
         Err(WatchFault::Run(fault)) => Err(WatchedFault::Run(fault)),
         Err(WatchFault::Stopped(event)) => Err(WatchedFault::Stopped(event)),

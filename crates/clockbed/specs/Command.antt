@@ -74,8 +74,9 @@ abbrev pub IsRead : Outside → Invocation → Option (List ℕ) → (failed : B
 IsRead outside asked bytes failed input left =
     IsReadFrom outside asked.request (option_map string_bytes asked.file) bytes failed input left
 
-pub record DoesRequest (outside : Outside) (words : List (List ℕ)) (before after : Streams) (status : ℕ)
-    : Type 0 where
+-- a request is performed. `unstarted` says whether a start of a thread failed
+pub record DoesRequest (outside : Outside) (words : List (List ℕ)) (before after : Streams) (unstarted : Bool)
+    (status : ℕ) : Type 0 where
   pub asked : Invocation
   pub words_ask : WordsAsk outside words asked
   pub bytes : Option (List ℕ)
@@ -83,7 +84,7 @@ pub record DoesRequest (outside : Outside) (words : List (List ℕ)) (before aft
   pub read : IsRead outside asked bytes failed before.input after.input
   pub performed :
       PerformsRequest asked.request bytes failed before.output.bytes after.output.bytes after.output.failed
-      before.error after.error status
+      unstarted before.error after.error status
 
 -- ---- no request is performed
 
@@ -113,12 +114,14 @@ pub record DoesNothing (outside : Outside) (words : List (List ℕ)) (before aft
 -- ---- the program
 
 -- one of the two
-abbrev pub AnswersWords : Outside → List (List ℕ) → Streams → Streams → ℕ → Type 0
-AnswersWords outside words before after status = DoesRequest outside words before after status
+abbrev pub AnswersWords : Outside → List (List ℕ) → Streams → Streams → (unstarted : Bool) → ℕ → Type 0
+AnswersWords outside words before after unstarted status =
+    DoesRequest outside words before after unstarted status
     ⊎ DoesNothing outside words before after status
 
 -- below a fault a line may follow that names a file or a stream, and says why it failed
-pub record RunsOn (outside : Outside) (words : List (List ℕ)) (before after : Streams) (status : ℕ) : Type 0 where
+pub record RunsOn (outside : Outside) (words : List (List ℕ)) (before after : Streams) (unstarted : Bool) (status : ℕ)
+    : Type 0 where
   pub told : Option (List ℕ)
-  pub answers : AnswersWords outside words before (record after { error = told }) status
+  pub answers : AnswersWords outside words before (record after { error = told }) unstarted status
   pub reason : SaysReasonAt status told after.error

@@ -1,5 +1,6 @@
 //! The program over any files and streams.
 ghost use Rattle.std.specs.Prelude.{◌≡◌, ◌⊎◌, ℕ, List, None, Option, Some, map, string_bytes};
+ghost use Rattle.bench_workers.specs.ThreadStarts.{has_failed};
 ghost use Rattle.command_answers.specs.Faults.{IsOfCommandLine, Says, fault_status, fault_text};
 ghost use Rattle.commands.specs.Perform.{CallsFor, PerformsRequest, TakesFor};
 ghost use Rattle.clockbed.specs.Command.{AnswersWords, RunsOn, input_of, output_of, outside_of, streams_of};
@@ -11,6 +12,7 @@ use crate::images::with_lists;
 use crate::outside::{Opener, WordsReader};
 use crate::progress::CommandProgress;
 use crate::source::{FailureReason, FileReason, tell_reason};
+use bench_workers::TrackedThreads;
 use command_answers::Fault;
 use command_line::{Invocation, WordsFault};
 use commands::perform::perform;
@@ -27,7 +29,7 @@ const FAULT_STATUS: u8 = 1;
 /// What the program runs on, streams aside.
 #[derive(Drop)]
 pub struct Program<'a, T, O, C> {
-    pub threads: &'a T,
+    pub threads: TrackedThreads<'a, T>,
     pub alloc: Global,
     pub opener: O,
     pub reader: C,
@@ -41,7 +43,8 @@ pub struct Answered {
 }
 
 /// Does what the words ask for, on the file that they name or on standard input, and says its fault on `err`. Below a
-/// fault of a file or a stream it says why. The status is that of [`answer_words`].
+/// fault of a file or a stream it says why. The status is that of [`answer_words`]. `program.threads` tells whether a start
+/// of a thread failed.
 pub fn run_words<
     T: Threads + Wait + Sync,
     O: Opener,
@@ -52,7 +55,7 @@ pub fn run_words<
     E: Sink,
     P: CommandProgress,
 >(
-    program: &Program<'_, T, O, C>,
+    program: &mut Program<'_, T, O, C>,
     words: &[S],
     input: &mut R,
     out: &mut W,
@@ -60,13 +63,13 @@ pub fn run_words<
     progress: &mut P,
 ) -> u8
     ensures { RunsOn
-        (outside_of (O.files program.now.opener) (O.may_fail program.now.opener) (C.asks program.now.reader))
+        (outside_of (O.files program.old.opener) (O.may_fail program.old.opener) (C.asks program.old.reader))
         (map S.text words.now)
         (streams_of (input_of (R.remaining input.old) (R.calls input.old) (R.has_failed input.old))
         (output_of (W.contents out.old) (W.has_failed out.old)) (E.contents err.old))
         (streams_of (input_of (R.remaining input.new) (R.calls input.new) (R.has_failed input.new))
         (output_of (W.contents out.new) (W.has_failed out.new)) (E.contents err.new))
-        result }
+        (has_failed program.new.threads.starts) result }
 {
     let answered = answer_words(program, words, input, out, err, progress);
     tell_why(&answered, input, out, err);
@@ -115,7 +118,7 @@ pub fn answer_words<
     E: Sink,
     P: CommandProgress,
 >(
-    program: &Program<'_, T, O, C>,
+    program: &mut Program<'_, T, O, C>,
     words: &[S],
     input: &mut R,
     out: &mut W,
@@ -123,13 +126,13 @@ pub fn answer_words<
     progress: &mut P,
 ) -> Answered
     ensures { AnswersWords
-        (outside_of (O.files program.now.opener) (O.may_fail program.now.opener) (C.asks program.now.reader))
+        (outside_of (O.files program.old.opener) (O.may_fail program.old.opener) (C.asks program.old.reader))
         (map S.text words.now)
         (streams_of (input_of (R.remaining input.old) (R.calls input.old) (R.has_failed input.old))
         (output_of (W.contents out.old) (W.has_failed out.old)) (E.contents err.old))
         (streams_of (input_of (R.remaining input.new) (R.calls input.new) (R.has_failed input.new))
         (output_of (W.contents out.new) (W.has_failed out.new)) (E.contents err.new))
-        result.status }
+        (has_failed program.new.threads.starts) result.status }
 {
     let expanded = match with_lists(program.alloc, &program.opener, words) {
         Ok(expanded) => expanded,
@@ -176,7 +179,7 @@ fn fault_of(fault: WordsFault) -> Fault
 
 /// Performs a request on the file at this path.
 fn answer_on_file<T: Threads + Wait + Sync, O: Opener, C, W: Sink, E: Sink, P: CommandProgress>(
-    program: &Program<'_, T, O, C>,
+    program: &mut Program<'_, T, O, C>,
     request: &Request,
     path: String,
     out: &mut W,
@@ -184,10 +187,10 @@ fn answer_on_file<T: Threads + Wait + Sync, O: Opener, C, W: Sink, E: Sink, P: C
     progress: &mut P,
 ) -> Answered
     ensures { AnswersOnFile
-        (O.files program.now.opener (string_bytes path)) (O.may_fail program.now.opener (string_bytes path))
+        (O.files program.old.opener (string_bytes path)) (O.may_fail program.old.opener (string_bytes path))
         request.now (output_of (W.contents out.old) (W.has_failed out.old))
-        (output_of (W.contents out.new) (W.has_failed out.new)) (E.contents err.old) (E.contents err.new)
-        result.status }
+        (output_of (W.contents out.new) (W.has_failed out.new)) (has_failed program.new.threads.starts)
+        (E.contents err.old) (E.contents err.new) result.status }
 {
     let mut file = match program.opener.open(path.as_str()) {
         Ok(file) => file,
@@ -212,7 +215,7 @@ fn answer_on_file<T: Threads + Wait + Sync, O: Opener, C, W: Sink, E: Sink, P: C
 
 /// Performs a request on this input.
 fn performed<T: Threads + Wait + Sync, O, C, R: Source, W: Sink, E: Sink, P: CommandProgress>(
-    program: &Program<'_, T, O, C>,
+    program: &mut Program<'_, T, O, C>,
     request: &Request,
     input: &mut R,
     out: &mut W,
@@ -220,8 +223,8 @@ fn performed<T: Threads + Wait + Sync, O, C, R: Source, W: Sink, E: Sink, P: Com
     progress: &mut P,
 ) -> u8
     ensures performed { PerformsRequest request.now (R.remaining input.old) (R.has_failed input.new)
-        (W.contents out.old) (W.contents out.new) (W.has_failed out.new) (E.contents err.old) (E.contents err.new)
-        result }
+        (W.contents out.old) (W.contents out.new) (W.has_failed out.new)
+        (has_failed program.new.threads.starts) (E.contents err.old) (E.contents err.new) result }
     ensures taken { TakesFor request.now (R.remaining input.old) (R.remaining input.new) }
     ensures cost { CallsFor request.now (R.calls input.old) (R.calls input.new) }
 {
@@ -229,7 +232,7 @@ fn performed<T: Threads + Wait + Sync, O, C, R: Source, W: Sink, E: Sink, P: Com
         progress.begin_sweep(options.keys.count());
     }
     perform(
-        program.threads,
+        &mut program.threads,
         program.alloc,
         request,
         input,

@@ -1,10 +1,11 @@
 //! The program over standard input alone.
-ghost use Rattle.std.specs.Prelude.{map};
+ghost use Rattle.std.specs.Prelude.{Bool, map};
 ghost use Rattle.clockbed.specs.Command.{AnswersWords, input_of, output_of, standard_input_alone, streams_of};
 
 use crate::answer::{Program, answer_words};
 use crate::outside::{Clap, NoFiles};
 use bench_space::Silent;
+use bench_workers::TrackedThreads;
 use std::alloc::Global;
 use std::convert::AsStr;
 use std::sync::Wait;
@@ -22,19 +23,19 @@ pub fn command<T: Threads + Wait + Sync, S: AsStr, R: Source, W: Sink, E: Sink>(
     out: &mut W,
     err: &mut E,
 ) -> u8
-    ensures { AnswersWords standard_input_alone (map S.text words.now)
+    ensures { (unstarted : Bool) × AnswersWords standard_input_alone (map S.text words.now)
         (streams_of (input_of (R.remaining reader.old) (R.calls reader.old) (R.has_failed reader.old))
         (output_of (W.contents out.old) (W.has_failed out.old)) (E.contents err.old))
         (streams_of (input_of (R.remaining reader.new) (R.calls reader.new) (R.has_failed reader.new))
         (output_of (W.contents out.new) (W.has_failed out.new)) (E.contents err.new))
-        result }
+        unstarted result }
 {
-    let program = Program {
-        threads: rt,
+    let mut program = Program {
+        threads: TrackedThreads::of(rt),
         alloc,
         opener: NoFiles,
         reader: Clap,
     };
-    let answered = answer_words(&program, words, reader, out, err, &mut Silent);
+    let answered = answer_words(&mut program, words, reader, out, err, &mut Silent);
     answered.status
 }

@@ -14,6 +14,7 @@ use crate::answer::{Program, run_words};
 use crate::outside::{Clap, Opener};
 use crate::progress::{SearchProgress, SweepProgress};
 use crate::source::Reasoned;
+use bench_workers::TrackedThreads;
 use command_answers::Fault;
 use std::cell::Cell;
 use std::fs::File;
@@ -82,13 +83,20 @@ fn run_on_host<T: Threads + Wait + Sync>(
         &keys,
     );
     let mut progress = SearchProgress::new(terminal_if(rt, is_told), rt, &keys);
-    let program = Program {
-        threads,
+    let mut program = Program {
+        threads: TrackedThreads::of(threads),
         alloc: rt.alloc(),
         opener: HostFiles { rt },
         reader: Clap,
     };
-    run_words(&program, words, &mut input, &mut out, err, &mut progress)
+    run_words(
+        &mut program,
+        words,
+        &mut input,
+        &mut out,
+        err,
+        &mut progress,
+    )
 }
 
 /// Returns standard error, if it is a terminal on which something is told.

@@ -1,3 +1,4 @@
 pub mod FaultLemmas
 pub mod SaidLemmas
+pub mod StartLemmas
 pub mod WriteLemmas

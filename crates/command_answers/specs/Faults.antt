@@ -28,6 +28,14 @@ HasWriteCause failed Memory = Unit {0}
 HasWriteCause failed Thread = Unit {0}
 HasWriteCause failed (CommandLine text) = Unit {0}
 
+-- `Thread` comes only if a start of a thread failed
+abbrev pub HasThreadCause : (unstarted : Bool) → Fault → Type 0
+HasThreadCause unstarted Read = Unit {0}
+HasThreadCause unstarted (Write after) = Unit {0}
+HasThreadCause unstarted Memory = Unit {0}
+HasThreadCause unstarted Thread = IsTrue unstarted
+HasThreadCause unstarted (CommandLine text) = Unit {0}
+
 -- memory ran out
 abbrev pub IsOutOfMemory : Fault → Type 0
 IsOutOfMemory Read = ⊥

@@ -35,7 +35,7 @@ no_thread_of_program : (text : Bool) (bytes : List ℕ) → IsFaultOfProgram tex
 no_thread_of_program true bytes is = is
 no_thread_of_program false bytes is = is
 
-no_thread_of_exec : (trace : Bool) (asked : ExecOptions) (bytes : List ℕ) (old new : Option (List ℕ))
+pub no_thread_of_exec : (trace : Bool) (asked : ExecOptions) (bytes : List ℕ) (old new : Option (List ℕ))
     → LeavesBy trace old new asked bytes (Err faults.Thread) → ⊥
 no_thread_of_exec true asked bytes old new (inl (program, reads, none)) = none
 no_thread_of_exec true asked bytes old new (inr (inl (unread, is, none))) = none

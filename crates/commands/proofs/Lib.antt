@@ -3,5 +3,6 @@ pub mod FrontLemmas
 pub mod LineLaws
 pub mod ReadingLemmas
 pub mod RunLemmas
+pub mod StartLemmas
 pub mod SweepLaws
 mod WritingLemmas

@@ -66,10 +66,17 @@ ReadingHasCause = (request : Request) (whole : List ℕ) (old new : Option (List
 
 -- if no call of `write` of the output failed or took nothing, no request ends with `fault write`
 abbrev pub WritingHasCause : Type 0
-WritingHasCause = (request : Request) (known : Option (List ℕ)) (failed : Bool)
+WritingHasCause = (request : Request) (known : Option (List ℕ)) (failed unstarted : Bool)
     (old new said_old said_new : Option (List ℕ)) (status after : ℕ)
-    → (performed : PerformsRequest request known failed old new false said_old said_new status)
+    → (performed : PerformsRequest request known failed old new false unstarted said_old said_new status)
     → performed.ended ≡ Err (faults.Write after) → ⊥
+
+-- if no start of a thread failed, no request ends with `fault thread`
+abbrev pub StartingHasCause : Type 0
+StartingHasCause = (request : Request) (known : Option (List ℕ)) (failed unwritten : Bool)
+    (old new said_old said_new : Option (List ℕ)) (status : ℕ)
+    → (performed : PerformsRequest request known failed old new unwritten false said_old said_new status)
+    → performed.ended ≡ Err faults.Thread → ⊥
 
 -- without a shape there is no `fault read` and no `fault thread`
 abbrev pub UnshapedReadsNothing : Type 0

@@ -14,7 +14,7 @@ use Rattle.program_commands.specs.Dis.{LeavesClock, LeavesListing}
 use Rattle.command_answers.specs.Ending.{status_of}
 use Rattle.program_commands.specs.Exec.{LeavesExec}
 use Rattle.program_commands.specs.Explained.{LeavesExplained}
-use Rattle.command_answers.specs.Faults.{HasWriteCause, IsFaultOfReading, Says, fault_status, fault_text}
+use Rattle.command_answers.specs.Faults.{HasThreadCause, HasWriteCause, IsFaultOfReading, Says, fault_status, fault_text}
 use Rattle.command_answers.specs.Input.{IsShapedInput, Takes, max_bytes, max_calls, program_input}
 use Rattle.command_answers.specs.Output.{Leaves, LeavesNothing}
 use Rattle.command_answers.specs.Said.{SaysAt}
@@ -97,12 +97,13 @@ SaysOf (Ok ending) old new = SaysAt ending old new
 SaysOf (Err fault) old new = Says old new (fault_text fault)
 
 -- the command is carried out, and told are the status and the fault of how it ended. `unwritten` says whether a call of
--- `write` of the output failed or took nothing
+-- `write` of the output failed or took nothing, and `unstarted` whether a start of a thread failed
 pub record PerformsRequest (request : Request) (input : Option (List ℕ)) (failed : Bool) (old new : Option (List ℕ))
-    (unwritten : Bool) (said_old said_new : Option (List ℕ)) (status : ℕ) : Type 0 where
+    (unwritten unstarted : Bool) (said_old said_new : Option (List ℕ)) (status : ℕ) : Type 0 where
   pub ended : Result Ending Fault
   pub carried_out : CarriesOut request input failed old new ended
   pub cause : IfErr ended (HasWriteCause unwritten)
+  pub thread : IfErr ended (HasThreadCause unstarted)
   pub answer : status ≡ status_for ended
   pub said : SaysOf ended said_old said_new
 

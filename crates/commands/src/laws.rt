@@ -16,7 +16,7 @@ ghost use Rattle.key_sweep.specs.Sweeps.{Lines};
 ghost use Rattle.parameters.specs.declared.lines.LinesForm.{LinesForm};
 ghost use Rattle.run_lines.specs.Telling.{IsWholeText};
 ghost use Rattle.scenario_text.specs.declared.scenario.Scenario.{Scenario};
-ghost use Rattle.commands.specs.Causes.{ReadingHasCause, ThreadsHaveCause, UnshapedReadsNothing, WritingHasCause};
+ghost use Rattle.commands.specs.Causes.{ReadingHasCause, StartingHasCause, ThreadsHaveCause, UnshapedReadsNothing, WritingHasCause};
 
 use bpf_asm::one_meaning;
 use bpf_insn::one_reading;
@@ -86,11 +86,12 @@ pub fn one_sweep()
     bench_workers::laws::one_run();
 }
 
-/// Each fault has its cause: `fault thread` is of a command that needs threads, `fault read` of a call of `read` that
-/// failed or of a text that is too long, and `fault write` of a call of `write` that failed or took nothing. A command
+/// Each fault has its cause: `fault thread` is of a command that needs threads, and of a start that failed, `fault read` of
+/// a call of `read` that failed or of a text that is too long, and `fault write` of a call of `write` that failed or took nothing. A command
 /// that has no shape, and so reads nothing, ends with no `fault read` and no `fault thread`.
 pub fn faults_have_causes()
     ensures thread { ThreadsHaveCause }
+    ensures start { StartingHasCause }
     ensures read { ReadingHasCause }
     ensures write { WritingHasCause }
     ensures unshaped { UnshapedReadsNothing }

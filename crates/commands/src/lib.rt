@@ -4,6 +4,7 @@
 //!
 //! ```
 //! use bench_space::Silent;
+//! use bench_workers::TrackedThreads;
 //! use commands::perform::perform;
 //! use requests::Request;
 //! use stream_io::Tracked;
@@ -11,8 +12,9 @@
 //! let (mut text, request): (&[u8], Request) = (b"exit", Request::Asm { list: false });
 //! let mut out = Tracked::of(Vec::new(rt.alloc()));
 //! let mut err = Tracked::of(Vec::new(rt.alloc()));
+//! let mut threads = TrackedThreads::of(&rt);
 //! let status = perform(
-//!     &rt,
+//!     &mut threads,
 //!     rt.alloc(),
 //!     &request,
 //!     &mut text,

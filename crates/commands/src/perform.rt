@@ -1,11 +1,13 @@
 //! A request, from its command to the exit status.
 ghost use Rattle.std.specs.Prelude.{◌≡◌, IfErr, IfOk};
 ghost use Rattle.commands.specs.Perform.{AsksInput, CallsFor, CarriesOut, PerformsRequest, Responds, TakesFor};
-ghost use Rattle.command_answers.specs.Faults.{HasWriteCause};
+ghost use Rattle.bench_workers.specs.ThreadStarts.{has_failed};
+ghost use Rattle.command_answers.specs.Faults.{HasThreadCause, HasWriteCause};
 ghost use Rattle.command_answers.specs.Said.{SaysAt};
 
 use crate::scenario::scenario_bytes;
 use bench_space::Progress;
+use bench_workers::TrackedThreads;
 use claim_commands::prove_claims;
 use command_answers::{
     Ending, Fault, Input, give, program_input, read_input, shaped_input, write_whole,
@@ -25,9 +27,9 @@ use stream_io::{Sink, Source};
 
 /// Runs the command, says its fault or the note on its refusal on `err`, and answers the exit status: 0 done, 1 fault
 /// or mismatch, 2 refused, 3 a violation, 4 not finished. What `err` does not take is dropped. `progress` is shown how
-/// far an exploration is.
+/// far an exploration is. `threads` tells whether a start of a thread failed.
 pub fn perform<T: Threads + Wait + Sync, R: Source, W: Sink, E: Sink, P: Progress>(
-    rt: &T,
+    threads: &mut TrackedThreads<'_, T>,
     alloc: Global,
     request: &Request,
     reader: &mut R,
@@ -36,12 +38,12 @@ pub fn perform<T: Threads + Wait + Sync, R: Source, W: Sink, E: Sink, P: Progres
     progress: &mut P,
 ) -> u8
     ensures performed { PerformsRequest request.now (R.remaining reader.old) (R.has_failed reader.new)
-        (W.contents out.old) (W.contents out.new) (W.has_failed out.new) (E.contents err.old) (E.contents err.new)
-        result }
+        (W.contents out.old) (W.contents out.new) (W.has_failed out.new) (has_failed threads.new.starts)
+        (E.contents err.old) (E.contents err.new) result }
     ensures taken { TakesFor request.now (R.remaining reader.old) (R.remaining reader.new) }
     ensures cost { CallsFor request.now (R.calls reader.old) (R.calls reader.new) }
 {
-    match carry_out(rt, alloc, request, reader, out, err, progress) {
+    match carry_out(threads, alloc, request, reader, out, err, progress) {
         Ok(ending) => ending.status(),
         Err(fault) => fault.tell(err),
     }
@@ -49,7 +51,7 @@ pub fn perform<T: Threads + Wait + Sync, R: Source, W: Sink, E: Sink, P: Progres
 
 /// Reads what the request reads, and runs its command.
 fn carry_out<T: Threads + Wait + Sync, R: Source, W: Sink, E: Sink, P: Progress>(
-    rt: &T,
+    threads: &mut TrackedThreads<'_, T>,
     alloc: Global,
     request: &Request,
     reader: &mut R,
@@ -62,11 +64,20 @@ fn carry_out<T: Threads + Wait + Sync, R: Source, W: Sink, E: Sink, P: Progress>
     ensures said { IfOk result (λ ending. SaysAt ending (E.contents err.old) (E.contents err.new)) }
     ensures unsaid { IfErr result (λ fault. E.contents err.new ≡ E.contents err.old) }
     ensures cause { IfErr result (HasWriteCause (W.has_failed out.new)) }
+    ensures thread { IfErr result (HasThreadCause (has_failed threads.new.starts)) }
     ensures taken { TakesFor request.now (R.remaining reader.old) (R.remaining reader.new) }
     ensures cost { CallsFor request.now (R.calls reader.old) (R.calls reader.new) }
 {
     match read_input(alloc, input_of(request), reader) {
-        Ok(bytes) => respond(rt, alloc, request, bytes.as_slice(), out, err, progress),
+        Ok(bytes) => respond(
+            threads,
+            alloc,
+            request,
+            bytes.as_slice(),
+            out,
+            err,
+            progress,
+        ),
         Err(fault) => Err(fault),
     }
 }
@@ -88,7 +99,7 @@ fn input_of(request: &Request) -> Input
 
 /// Runs the command of a request on the bytes of its input, or says why these are rejected.
 fn respond<T: Threads + Wait + Sync, W: Sink, E: Sink, P: Progress>(
-    rt: &T,
+    threads: &mut TrackedThreads<'_, T>,
     alloc: Global,
     request: &Request,
     bytes: &[u8],
@@ -100,6 +111,7 @@ fn respond<T: Threads + Wait + Sync, W: Sink, E: Sink, P: Progress>(
     ensures said { IfOk result (λ ending. SaysAt ending (E.contents err.old) (E.contents err.new)) }
     ensures unsaid { IfErr result (λ fault. E.contents err.new ≡ E.contents err.old) }
     ensures cause { IfErr result (HasWriteCause (W.has_failed out.new)) }
+    ensures thread { IfErr result (HasThreadCause (has_failed threads.new.starts)) }
 {
     match request {
         Request::Exec(options) => exec_bytes(alloc, options, bytes, out, err),
@@ -109,9 +121,11 @@ fn respond<T: Threads + Wait + Sync, W: Sink, E: Sink, P: Progress>(
         Request::Clock(options) => give(alloc, clock(alloc, *options), out, err),
         Request::Verify(options) => give(alloc, verify(alloc, *options, bytes), out, err),
         Request::Explain(options) => give(alloc, explanation(alloc, *options, bytes), out, err),
-        Request::Scenario(asked) => scenario_bytes(rt, alloc, asked, bytes, out, err, progress),
+        Request::Scenario(asked) => scenario_bytes(
+            threads, alloc, asked, bytes, out, err, progress,
+        ),
         Request::Prove(options) => give(alloc, prove_claims(alloc, options, bytes), out, err),
-        Request::Stress(options) => give(alloc, stress(rt, alloc, *options), out, err),
+        Request::Stress(options) => give(alloc, stress(threads, alloc, *options), out, err),
         Request::Help { text } => write_whole(out, text.as_bytes(), Ending::Done),
     }
 }

@@ -2,12 +2,14 @@
 ghost use Rattle.std.specs.Prelude.{◌≡◌, ℕ, List, IfErr, IfOk, MatchResult, take};
 ghost use Rattle.bench_scenario.specs.declared.run.TheConstants.{MAX_BYTES};
 ghost use Rattle.scenario_text.specs.Texts.{IsDue, IsParsed, ReadsText};
-ghost use Rattle.command_answers.specs.Faults.{HasWriteCause, IsOutOfMemory};
+ghost use Rattle.bench_workers.specs.ThreadStarts.{has_failed};
+ghost use Rattle.command_answers.specs.Faults.{HasThreadCause, HasWriteCause, IsOutOfMemory};
 ghost use Rattle.command_answers.specs.Said.{SaysAt};
 ghost use Rattle.commands.specs.Scenarios.{LeavesFor, LeavesOf};
 
 use crate::explore::explore;
 use bench_space::Progress;
+use bench_workers::TrackedThreads;
 use command_answers::{Ending, Fault, Rejection, give, reject};
 use requests::ScenarioRequest;
 use run_commands::lines::lines;
@@ -24,7 +26,7 @@ use stream_io::Sink;
 
 /// Does what is asked for on the scenario of a text that begins with these bytes.
 pub(crate) fn scenario_bytes<T: Threads + Wait + Sync, W: Sink, E: Sink, P: Progress>(
-    rt: &T,
+    threads: &mut TrackedThreads<'_, T>,
     alloc: Global,
     asked: &ScenarioRequest,
     bytes: &[u8],
@@ -37,10 +39,11 @@ pub(crate) fn scenario_bytes<T: Threads + Wait + Sync, W: Sink, E: Sink, P: Prog
     ensures said { IfOk result (λ ending. SaysAt ending (E.contents err.old) (E.contents err.new)) }
     ensures unsaid { IfErr result (λ fault. E.contents err.new ≡ E.contents err.old) }
     ensures cause { IfErr result (HasWriteCause (W.has_failed out.new)) }
+    ensures thread { IfErr result (HasThreadCause (has_failed threads.new.starts)) }
 {
     let read = scenario_read(alloc, bytes)?;
     match read {
-        Ok(scenario) => on_scenario(rt, alloc, asked, &scenario, out, err, progress),
+        Ok(scenario) => on_scenario(threads, alloc, asked, &scenario, out, err, progress),
         Err(rejected) => reject(alloc, &Rejection::Scenario(rejected), bytes, out, err),
     }
 }
@@ -65,7 +68,7 @@ fn scenario_read(alloc: Global, bytes: &[u8]) -> Result<Result<Scenario, Rejecte
 
 /// Does what is asked for on a scenario that was read.
 fn on_scenario<T: Threads + Wait + Sync, W: Sink, E: Sink, P: Progress>(
-    rt: &T,
+    threads: &mut TrackedThreads<'_, T>,
     alloc: Global,
     asked: &ScenarioRequest,
     scenario: &Scenario,
@@ -78,21 +81,39 @@ fn on_scenario<T: Threads + Wait + Sync, W: Sink, E: Sink, P: Progress>(
     ensures said { IfOk result (λ ending. SaysAt ending (E.contents err.old) (E.contents err.new)) }
     ensures unsaid { IfErr result (λ fault. E.contents err.new ≡ E.contents err.old) }
     ensures cause { IfErr result (HasWriteCause (W.has_failed out.new)) }
+    ensures thread { IfErr result (HasThreadCause (has_failed threads.new.starts)) }
 {
     match asked {
-        ScenarioRequest::Run(options) => run(rt, alloc, *options, scenario, out),
-        ScenarioRequest::Lines(options) => lines(rt, alloc, *options, scenario, out),
+        ScenarioRequest::Run(options) => run(threads, alloc, *options, scenario, out),
+        ScenarioRequest::Lines(options) => lines(threads, alloc, *options, scenario, out),
         ScenarioRequest::TracedRun(place) => {
-            give(alloc, traced_run(rt, alloc, *place, scenario), out, err)
+            give(
+                alloc,
+                traced_run(threads.runtime, alloc, *place, scenario),
+                out,
+                err,
+            )
         }
         ScenarioRequest::NodeProgram(options) => {
-            give(alloc, node_program(rt, alloc, *options, scenario), out, err)
+            give(
+                alloc,
+                node_program(threads.runtime, alloc, *options, scenario),
+                out,
+                err,
+            )
         }
-        ScenarioRequest::Sweep(options) => sweep(rt, alloc, *options, scenario, out, err),
+        ScenarioRequest::Sweep(options) => sweep(
+            threads.runtime,
+            alloc,
+            *options,
+            scenario,
+            out,
+            err,
+        ),
         ScenarioRequest::Explore(options) => {
             give(
                 alloc,
-                explore(rt, alloc, options, scenario, progress),
+                explore(threads.runtime, alloc, options, scenario, progress),
                 out,
                 err,
             )

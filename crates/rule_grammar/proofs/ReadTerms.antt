@@ -21,7 +21,7 @@ use Rattle.rule_text.specs.declared.joints.Chain.{Chain}
 use Rattle.rule_text.specs.declared.joints.Chain.TheVariants as chains
 use Rattle.rule_text.specs.declared.terms.Grade.TheVariants.{Whole, Inverse}
 use Rattle.rule_text.specs.declared.terms.TheConstants.{MAX_PARTS}
-use Rattle.rule_text.specs.Forms.{TermForm, is_constant}
+use Rattle.rule_text.specs.Forms.{TermForm, is_constant_form}
 use Rattle.rule_text.specs.Tables.{SourceForm, table_at, table_term}
 use Rattle.rule_text.specs.Scopes.{rule_error_at, meaning_of, scope_entry, next_meaning, added, named_entry_by, named_entry, new_name}
 use Rattle.rule_text.specs.Terms.{joint_of, join, named_term, leaf_of, item_read, place_read, Reader, Inner, leaf, named_leaf, leaf_by, leaf_read, lookup_read, named_atom, marked_atom, atom, chain_step, chain_rest, compare_read, inverse_read, operand_read, chain_read, whole_read, part, term_read}
@@ -228,7 +228,7 @@ module _ (source : SourceForm) where
 
   -- a constant in square brackets
   place_gives : (names : List Entry) (o c : Token) (ks : List Token) (k : TermForm) → s.IsSign signs.OpenSquare o
-      → s.IsTerm source s.whole names ks k → is_constant k ≡ true → s.IsSign signs.CloseSquare c
+      → s.IsTerm source s.whole names ks k → is_constant_form k ≡ true → s.IsSign signs.CloseSquare c
       → Plain s.whole names ks k → (room : ℕ) (rest : List Token)
       → Gives (place_read (part room source) names (o ∷ (ks ++ (c ∷ rest)))) (k, rest)
   place_gives names o c ks k opens dk fixed closes h room rest =

@@ -10,7 +10,7 @@ use Rattle.rule_syntax.specs.declared.syntax.Operator.TheVariants.{Compare}
 use Rattle.rule_syntax.specs.declared.syntax.Sizes.{Sizes}
 use Rattle.rule_syntax.specs.declared.syntax.Term.{Term}
 use Rattle.rule_syntax.specs.declared.syntax.Term.TheVariants.{Me, Message', Binary', Logical', Not', Choice', Count', Least', Sorted'}
-use Rattle.rule_nodes.specs.Meaning.{NodeState, apply_operator, bit_of, truth, combine, count_below, least_below, numbers_below, in_order, at_place, word_at, message_from, value}
+use Rattle.rule_nodes.specs.Meaning.{NodeState, apply_operator, bit_of, truth, combine, count_below, least_below, numbers_of_nodes, in_order, number_at_place, word_at, message_from, value}
 use Rattle.rule_text.specs.declared.lookups.Run.{Run}
 use Rattle.rule_text.specs.Forms.{TermForm, number, nodes, faults, modulus, me, coin, loop_node, local, word, message, binary, logical, inverse, choice, count, least, sorted, term_form}
 use Rattle.rule_text.specs.Tables.{cell_at, run, run_at, runs_from, runs_of, middle, first_run, looked_up, table_term}
@@ -38,7 +38,8 @@ form_value (count t) z env J u = count_below z.nodes (λ j. form_value t z env (
 form_value (least t) z env J u =
     least_below z.nodes (λ j. form_value t z env (J ++ j ∷ []) u) (λ j. message_from z env j)
 form_value (sorted a b) z env J u =
-    at_place (form_value a z env J u) (in_order (numbers_below z.nodes (λ j. form_value b z env (J ++ j ∷ []) u)))
+    number_at_place (form_value a z env J u)
+    (in_order (numbers_of_nodes z.nodes (λ j. form_value b z env (J ++ j ∷ []) u)))
 
 value_same : (t : Term) (z : Sizes) (env : Setting) (J : List ℕ) (u : NodeState)
     → value t z env J u ≡ form_value (term_form t) z env J u
@@ -53,8 +54,8 @@ value_same (Count' p t) z env J u = λ k. count_below z.nodes (λ j. value_same 
 value_same (Least' p t) z env J u =
     λ k. least_below z.nodes (λ j. value_same t z env (J ++ j ∷ []) u k) (λ j. message_from z env j)
 value_same (Sorted' p a q b) z env J u =
-    λ k. at_place (value_same a z env J u k)
-    (in_order (numbers_below z.nodes (λ j. value_same b z env (J ++ j ∷ []) u k)))
+    λ k. number_at_place (value_same a z env J u k)
+    (in_order (numbers_of_nodes z.nodes (λ j. value_same b z env (J ++ j ∷ []) u k)))
 value_same Me z env J u = refl
 value_same _ z env J u = refl
 

@@ -30,10 +30,10 @@ use Rattle.rule_text.specs.declared.terms.Grade.{Grade}
 use Rattle.rule_text.specs.declared.terms.Grade.TheVariants.{Whole, Inverse}
 use Rattle.rule_text.specs.declared.terms.TheConstants.{MAX_PARTS}
 use Rattle.rule_text.specs.Signs.{sign_text, sign_of, is_same}
-use Rattle.rule_text.specs.Forms.{TermForm, number, message, binary, inverse, choice, sorted, is_constant}
+use Rattle.rule_text.specs.Forms.{TermForm, number, message, binary, inverse, choice, sorted, is_constant_form}
 use Rattle.rule_text.specs.Tables.{SourceForm, table_at, table_term}
 use Rattle.rule_text.specs.Scopes.{◌>>=◌, rule_error_at, error_in, letters_of, meaning_of, scope_entry, next_meaning, added, named_entry_by, named_entry, new_name}
-use Rattle.rule_text.specs.Terms.{is_of_sign, rest_after, wanted, joint_of, comparison_of, joint_in, comparison_in, is_least, begins_with_name, after_least, aggregate_in, aggregated, join, named_term, leaf_of, Reader, Inner, leaf, named_leaf, leaf_by, leaf_read, lookup_read, named_atom, bracketed, message_read, marked_atom, atom_by, atom, chain_step, chain_rest, chain_of, compare_rest, compare_read, inverse_read, operand_read, chain_read, choice_read, choice_rest, item_read, aggregate_read, constant_only, place_read, sorted_read, plain_read, other_read, whole_read, part, term_read}
+use Rattle.rule_text.specs.Terms.{is_of_sign, rest_after, wanted, joint_of, comparison_of, joint_in, comparison_in, is_least, begins_with_name, after_least, aggregate_in, aggregated, join, named_term, leaf_of, Reader, Inner, leaf, named_leaf, leaf_by, leaf_read, lookup_read, named_atom, bracketed, message_read, marked_atom, atom_by, atom, chain_step, chain_rest, chain_of, compare_rest, compare_read, inverse_read, operand_read, chain_read, choice_read, choice_rest, item_read, aggregate_read, constant_only, place_read, sorted_read, plain_read, sorted_or_plain, whole_read, part, term_read}
 use Rattle.rule_text.specs.Spelling as s
 
 -- ---- readings
@@ -524,7 +524,7 @@ module _ (source : SourceForm) where
     -- a constant in square brackets
     data IsPlace : List Token → TermForm → Type 0 where
       place : {ts : List Token} {o c : Token} {k : TermForm} → s.IsSign signs.OpenSquare o
-          → s.IsTerm source s.whole names ts k → is_constant k ≡ true → s.IsSign signs.CloseSquare c
+          → s.IsTerm source s.whole names ts k → is_constant_form k ≡ true → s.IsSign signs.CloseSquare c
           → IsPlace (o ∷ (ts ++ (c ∷ []))) k
 
     item_reads : (ts : List Token) → Reads (item_read inner source names ts) (λ x. Took ts x.1 (λ us. IsItem us x.0))
@@ -537,9 +537,9 @@ module _ (source : SourceForm) where
         (λ a is. took_new source.text new (λ n is_new. took_front colons (λ c colon. took is (λ us term.
         item is_new colon term))))))
 
-    constant_reads : (k : TermForm) (ts : List Token) → Reads (constant_only k ts) (λ a. (a ≡ k) × (is_constant k ≡ true))
+    constant_reads : (k : TermForm) (ts : List Token) → Reads (constant_only k ts) (λ a. (a ≡ k) × (is_constant_form k ≡ true))
     constant_reads k ts =
-        by_test (is_constant k) (Ok k) (Err (error_in Expected ts)) (λ fixed. gives k (refl, fixed))
+        by_test (is_constant_form k) (Ok k) (Err (error_in Expected ts)) (λ fixed. gives k (refl, fixed))
         (λ varies. fails (error_in Expected ts))
 
     place_reads : (ts : List Token) → Reads (place_read inner names ts) (λ x. Took ts x.1 (λ us. IsPlace us x.0))
@@ -584,8 +584,8 @@ module _ (source : SourceForm) where
         (λ a is. gives (sorted k.0 a.0, a.1) (took_more w (took_then constant (λ us at. took is (λ vs numbers.
         sorted_spelled w us vs k.0 a.0 word at numbers))))))
 
-    other_reads : Operands s.whole (other_read inner source names)
-    other_reads ts =
+    sorted_or_plain_reads : Operands s.whole (sorted_or_plain inner source names)
+    sorted_or_plain_reads ts =
         by_option (rest_after signs.Sorted ts) (λ rest. sorted_read inner source names rest)
         (plain_read inner source names ts)
         (λ rest e. let f = after_front signs.Sorted ts rest e in
@@ -595,10 +595,10 @@ module _ (source : SourceForm) where
     whole_reads : Operands s.whole (whole_read inner source names)
     whole_reads ts =
         by_option (aggregate_in source.text ts) (λ x. aggregate_read inner source names x.0 x.1)
-        (other_read inner source names ts)
+        (sorted_or_plain inner source names ts)
         (λ x e. let f = aggregate_front source.text ts x e in
         implied (aggregate_read inner source names x.0 x.1) (aggregate_reads x.0 f.first x.1 f.is)
-        (λ y is. took_of f.split is)) (λ e. other_reads ts)
+        (λ y is. took_of f.split is)) (λ e. sorted_or_plain_reads ts)
 
   part_reads : (room : ℕ) → Spelled (part room source)
   unfolding part

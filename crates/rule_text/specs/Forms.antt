@@ -68,24 +68,24 @@ term_form (Least' p t) = least (term_form t)
 term_form (Sorted' p k q t) = sorted (term_form k) (term_form t)
 
 -- a constant is a number, a size, the node of a loop, or computed of constants: the same for all nodes and pulses
-abbrev pub is_constant : TermForm → Bool
-is_constant (number v) = true
-is_constant nodes = true
-is_constant faults = true
-is_constant modulus = true
-is_constant me = false
-is_constant coin = false
-is_constant (loop_node i) = true
-is_constant (local k) = false
-is_constant (word k) = false
-is_constant (message a) = false
-is_constant (binary o a b) = is_constant a && is_constant b
-is_constant (logical c a b) = false
-is_constant (inverse a) = false
-is_constant (choice t a b) = false
-is_constant (count t) = false
-is_constant (least t) = false
-is_constant (sorted k t) = false
+abbrev pub is_constant_form : TermForm → Bool
+is_constant_form (number v) = true
+is_constant_form nodes = true
+is_constant_form faults = true
+is_constant_form modulus = true
+is_constant_form me = false
+is_constant_form coin = false
+is_constant_form (loop_node i) = true
+is_constant_form (local k) = false
+is_constant_form (word k) = false
+is_constant_form (message a) = false
+is_constant_form (binary o a b) = is_constant_form a && is_constant_form b
+is_constant_form (logical c a b) = false
+is_constant_form (inverse a) = false
+is_constant_form (choice t a b) = false
+is_constant_form (count t) = false
+is_constant_form (least t) = false
+is_constant_form (sorted k t) = false
 
 -- a term of one token
 abbrev pub leaf_form : Leaf → TermForm

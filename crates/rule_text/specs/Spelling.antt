@@ -21,7 +21,7 @@ use Rattle.rule_text.specs.declared.scope.TheConstants.{MAX_NAMES}
 use Rattle.rule_text.specs.declared.joints.Joint.{Joint}
 use Rattle.rule_text.specs.declared.joints.Chain.{Chain}
 use Rattle.rule_text.specs.declared.joints.Chain.TheVariants as chains
-use Rattle.rule_text.specs.Forms.{TermForm, number, message, binary, inverse, choice, count, least, sorted, is_constant}
+use Rattle.rule_text.specs.Forms.{TermForm, number, message, binary, inverse, choice, count, least, sorted, is_constant_form}
 use Rattle.rule_text.specs.Forms.{AssignmentForm, one, also}
 use Rattle.rule_text.specs.Forms.{StatementForm, nothing, sequence, let_in, assign, branch, each, send_all, send_to}
 use Rattle.rule_text.specs.Tables.{SourceForm, HeaderForm, no_header, source_with, table_at, table_term}
@@ -109,7 +109,7 @@ pub data IsTerm (source : SourceForm) : Level → List Entry → List Token → 
       → IsTerm source whole more ts a → IsTerm source whole names (l ∷ n ∷ d ∷ ts) (least a)
   -- "sorted" "[" place "]" name ":" term: the place is a constant, and can't use the name
   sorted_at : {names more : List Entry} {ks ts : List Token} {w o c n d : Token} {k a : TermForm}
-      → IsSign signs.Sorted w → IsSign signs.OpenSquare o → IsTerm source whole names ks k → IsTrue (is_constant k)
+      → IsSign signs.Sorted w → IsSign signs.OpenSquare o → IsTerm source whole names ks k → IsTrue (is_constant_form k)
       → IsSign signs.CloseSquare c → IsNew source.text makers.Loop names n more → IsSign signs.Colon d
       → IsTerm source whole more ts a → IsTerm source whole names (w ∷ o ∷ (ks ++ (c ∷ n ∷ d ∷ ts))) (sorted k a)
   -- a chain and one more operand: operators of one kind group from the left

@@ -31,7 +31,7 @@ use Rattle.rule_text.specs.declared.terms.Grade.TheVariants.{Whole, Inverse}
 use Rattle.rule_text.specs.declared.terms.TheConstants.{MAX_PARTS}
 use Rattle.rule_text.specs.Signs.{is_same}
 use Rattle.rule_text.specs.Forms.{TermForm, number, nodes, faults, modulus, me, coin, loop_node, local, word, message}
-use Rattle.rule_text.specs.Forms.{binary, logical, inverse, choice, count, least, sorted, is_constant}
+use Rattle.rule_text.specs.Forms.{binary, logical, inverse, choice, count, least, sorted, is_constant_form}
 use Rattle.rule_text.specs.Tables.{SourceForm, table_at, table_term}
 use Rattle.rule_text.specs.Tokens.{is_named}
 use Rattle.rule_text.specs.Scopes.{Reading, ◌>>=◌, rule_error_at, error_in, letters_of, meaning_of, new_name}
@@ -277,7 +277,7 @@ aggregate_read inner source names aggregate ts =
 
 -- a term that has to be a constant, and begins with these tokens
 abbrev pub constant_only : TermForm → List Token → Result TermForm ReadRuleError
-constant_only k ts = if is_constant k then Ok k else Err (error_in Expected ts)
+constant_only k ts = if is_constant_form k then Ok k else Err (error_in Expected ts)
 
 -- a constant in square brackets
 abbrev pub place_read : Inner → List Entry → Reader
@@ -295,8 +295,8 @@ plain_read inner source names ts =
     chain_read inner source names chains.Either ts >>= λ x. choice_rest inner source names x.0 x.1
 
 -- a term that doesn't begin with `count` or `least`
-abbrev pub other_read : Inner → SourceForm → List Entry → Reader
-other_read inner source names ts = elim (rest_after signs.Sorted ts) [
+abbrev pub sorted_or_plain : Inner → SourceForm → List Entry → Reader
+sorted_or_plain inner source names ts = elim (rest_after signs.Sorted ts) [
   | Some rest ↦ sorted_read inner source names rest
   | None ↦ plain_read inner source names ts
 ]
@@ -304,7 +304,7 @@ other_read inner source names ts = elim (rest_after signs.Sorted ts) [
 abbrev pub whole_read : Inner → SourceForm → List Entry → Reader
 whole_read inner source names ts = elim (aggregate_in source.text ts) [
   | Some x ↦ aggregate_read inner source names x.0 x.1
-  | None ↦ other_read inner source names ts
+  | None ↦ sorted_or_plain inner source names ts
 ]
 
 -- a part, with at most this many in one another

@@ -1,6 +1,6 @@
 //! Aggregates over the nodes: `count`, `least` and `sorted`.
 ghost use Rattle.std.specs.Prelude.{◌≡◌, IfOk, IfErr, Ok, Err, Some, None, MatchOption};
-ghost use Rattle.rule_text.specs.Forms.{term_form, is_constant, count, least, sorted};
+ghost use Rattle.rule_text.specs.Forms.{term_form, is_constant_form, count, least, sorted};
 ghost use Rattle.rule_text.specs.Terms.{is_least, begins_with_name, after_least, aggregate_in, aggregated};
 ghost use Rattle.rule_text.specs.Terms.{constant_only};
 
@@ -92,7 +92,7 @@ pub fn aggregated(alloc: Global, aggregate: Aggregate, a: Term) -> Result<Term, 
 
 /// Returns true for a constant: a number, a size, the node of a loop, or computed of constants.
 fn is_constant(term: &Term) -> bool
-    ensures { result ≡ is_constant (term_form term.now) }
+    ensures { result ≡ is_constant_form (term_form term.now) }
 {
     match term {
         Term::Number(_) | Term::Nodes | Term::Faults | Term::Modulus | Term::LoopNode(_) => true,

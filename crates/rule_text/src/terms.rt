@@ -5,7 +5,7 @@ ghost use Rattle.rule_text.specs.Forms.{term_form};
 ghost use Rattle.rule_text.specs.Tables.{source_form};
 ghost use Rattle.rule_text.specs.Terms.{bracketed, message_read, atom};
 ghost use Rattle.rule_text.specs.Terms.{compare_read, inverse_read, operand_read, chain_read};
-ghost use Rattle.rule_text.specs.Terms.{choice_read, item_read, aggregate_read, place_read, sorted_read, other_read};
+ghost use Rattle.rule_text.specs.Terms.{choice_read, item_read, aggregate_read, place_read, sorted_read, sorted_or_plain};
 ghost use Rattle.rule_text.specs.Terms.{whole_read, part, term_read};
 
 use crate::aggregates::{Aggregate, aggregate_in, aggregated, constant_only, sorted_of};
@@ -305,18 +305,18 @@ fn sorted<'a>(
 
 /// Reads a term that doesn't begin with `count` or `least`.
 #[cycle(terms)]
-fn other<'a>(
+fn sorted_or_plain<'a>(
     alloc: Global,
     source: &Source,
     names: &[Entry],
     tokens: &'a [Token],
     room: u32,
 ) -> Result<(Term, &'a [Token]), ReadRuleError>
-    ensures read { IfOk result (λ x. other_read (part room (source_form source.now)) (source_form source.now) names.now
+    ensures read { IfOk result (λ x. sorted_or_plain (part room (source_form source.now)) (source_form source.now) names.now
         tokens.now
         ≡ Ok (term_form x.0, x.1.now)) }
     ensures error { IfErr result (TellsError
-        (other_read (part room (source_form source.now)) (source_form source.now) names.now tokens.now)) }
+        (sorted_or_plain (part room (source_form source.now)) (source_form source.now) names.now tokens.now)) }
 {
     if let Some(inside) = after(Sign::Sorted, tokens) {
         return sorted(alloc, source, names, inside, room);
@@ -345,7 +345,7 @@ fn whole<'a>(
     if let Some((kind, inside)) = aggregate_in(source.text, tokens) {
         return aggregate(alloc, source, names, inside, kind, room);
     }
-    other(alloc, source, names, tokens, room)
+    sorted_or_plain(alloc, source, names, tokens, room)
 }
 
 /// Reads a part, with room for this many in one another.

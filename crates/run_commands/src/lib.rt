@@ -5,6 +5,7 @@
 //! - `sweep::sweep` writes a row for each seed.
 //!
 //! ```
+//! use bench_workers::TrackedThreads;
 //! use command_answers::Ending;
 //! use requests::RunOptions;
 //! use run_commands::run::run;
@@ -18,8 +19,11 @@
 //!     workers: 1,
 //!     check: true,
 //! };
+//! let mut threads = TrackedThreads::of(&rt);
 //! let mut report = Tracked::of(Vec::new(rt.alloc()));
-//! let ending = run(&rt, rt.alloc(), options, &scenario, &mut report).map_err(|_| "a fault")?;
+//! let ending = run(&mut threads, rt.alloc(), options, &scenario, &mut report).map_err(
+//!     |_| "a fault",
+//! )?;
 //! assert_eq!(rt; ending, Ending::Done);
 //! ```
 #![tactic(auto)]

@@ -2,12 +2,13 @@
 ghost use Rattle.std.specs.Prelude.{◌≡◌, IfErr, List, ℕ};
 ghost use Rattle.bench_scenario.specs.Runs.{IsMemoryOrThread};
 ghost use Rattle.scenario_text.specs.Texts.{ReadsText};
-ghost use Rattle.command_answers.specs.Faults.{HasWriteCause};
+ghost use Rattle.bench_workers.specs.ThreadStarts.{has_failed};
+ghost use Rattle.command_answers.specs.Faults.{HasThreadCause, HasWriteCause};
 ghost use Rattle.command_answers.specs.inner.Faults.{IsRunFault};
 ghost use Rattle.run_commands.specs.Run.{LeavesReported, report_ending};
 
 use bench_scenario::{ReportFault, write_report};
-use bench_workers::{MAX_WORKERS, RunRefusal};
+use bench_workers::{MAX_WORKERS, RunRefusal, TrackedThreads};
 use command_answers::{Ending, Fault};
 use requests::RunOptions;
 use scenario_text::Scenario;
@@ -19,7 +20,7 @@ use stream_io::Sink;
 /// Writes the report of the run of a scenario that was read. If that is to be checked, the ending tells of a pulse that
 /// doesn't agree. Clamps the number of workers to `1..=MAX_WORKERS`.
 pub fn run<T: Threads + Wait + Sync, W: Sink>(
-    rt: &T,
+    threads: &mut TrackedThreads<'_, T>,
     alloc: Global,
     options: RunOptions,
     scenario: &Scenario,
@@ -28,9 +29,10 @@ pub fn run<T: Threads + Wait + Sync, W: Sink>(
     requires reads { (text : List ℕ) × ReadsText text scenario.now }
     ensures left { LeavesReported options.check (W.contents out.old) (W.contents out.new) scenario.now result }
     ensures cause { IfErr result (HasWriteCause (W.has_failed out.new)) }
+    ensures thread { IfErr result (HasThreadCause (has_failed threads.new.starts)) }
 {
     let workers = options.workers.clamp(1, MAX_WORKERS);
-    match write_report(rt, alloc, scenario, workers, out) {
+    match write_report(threads, alloc, scenario, workers, out) {
         Ok(agrees) => Ok(ending_of(options.check, agrees)),
         Err(ReportFault::Run(fault)) => Err(fault_of(fault.fault)),
         Err(ReportFault::Write { written }) => Err(Fault::Write {

@@ -1,11 +1,13 @@
 //! `stress`: many hands at one bench, and whether its history is what they did.
 ghost use Rattle.std.specs.Prelude.{◌≡◌, IfErr, IfOk, length, string_bytes};
-ghost use Rattle.command_answers.specs.Faults.{IsFaultOfThreads};
+ghost use Rattle.bench_workers.specs.ThreadStarts.{has_failed};
+ghost use Rattle.command_answers.specs.Faults.{HasThreadCause, IsFaultOfThreads};
 ghost use Rattle.run_commands.specs.Stress.{IsStressed, Replayed, stressed_ending, stressed_text};
 ghost use Rattle.command_answers.specs.inner.Responses.{IsNoted, IsResponse};
 
 use bench_shared::Finished;
-use bench_stress::{Stop, stress_bench};
+use bench_stress::{Stop, stress_bench_with};
+use bench_workers::TrackedThreads;
 use command_answers::{Ending, Fault, Response};
 use requests::StressOptions;
 use std::alloc::{AllocError, Global};
@@ -16,15 +18,16 @@ use std::thread::Threads;
 /// Lets loaders and an engine work on one bench at once, and returns how many entries they made, if its history is what
 /// their receipts say (docs/THREADS.md). Clamps the numbers of loaders and workers to their ranges.
 pub fn stress<R: Threads + Wait + Sync>(
-    rt: &R,
+    threads: &mut TrackedThreads<'_, R>,
     alloc: Global,
     options: StressOptions,
 ) -> Result<Response, Fault>
     ensures response { IfOk result (IsResponse (IsStressed options) stressed_text stressed_ending) }
     ensures noted { IfOk result IsNoted }
     ensures fault { IfErr result IsFaultOfThreads }
+    ensures thread { IfErr result (HasThreadCause (has_failed threads.new.starts)) }
 {
-    match stress_bench(rt, alloc, options) {
+    match stress_bench_with(threads, alloc, options) {
         Ok(finished) => match finished_text(alloc, &finished) {
             Ok(line) => Ok(Response::done(line.into_bytes())),
             Err(_) => Err(Fault::Memory),

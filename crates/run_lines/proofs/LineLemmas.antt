@@ -16,7 +16,7 @@ use Rattle.bench_scenario.specs.Events.{events_of}
 use Rattle.bench_scenario.specs.Reports.{all_agree}
 use Rattle.bench_scenario.specs.Runs.{bench_of}
 use Rattle.bench_scenario.specs.Verdicts.{judged_of}
-use Rattle.bench_scenario.specs.Watching.{ScenarioEndsAt}
+use Rattle.bench_scenario.specs.Watching.{ScenarioEndsAt, WatchedHasThreads}
 use Rattle.bench_scenario.specs.declared.verdicts.Judged.{Judged}
 use Rattle.bench_scenario.specs.declared.watched.WatchedFault.{WatchedFault}
 use Rattle.bench_scenario.specs.declared.watched.WatchedFault.TheVariants as watched
@@ -31,7 +31,7 @@ use Rattle.run_lines.specs.Data.{judged_seen}
 use Rattle.run_lines.specs.Lines.{first_line, front_text, summary_line, line_within, told_line, whole_text}
 use Rattle.parameters.specs.declared.lines.LinesForm.{LinesForm}
 use Rattle.parameters.specs.Pulses.{is_within}
-use Rattle.run_lines.specs.Telling.{AreShown, HasLinesCause, IsFrontText, IsWholeText, LeavesFront, LeavesLines}
+use Rattle.run_lines.specs.Telling.{AreShown, HasLinesCause, IsFrontText, IsWholeText, LeavesFront, LeavesLines, LinesHaveThreads}
 use Rattle.run_lines.proofs.JudgingLaws.{judges_as_the_report}
 use Rattle.run_lines.specs.inner.Writing.{IsEndOfLines, IsReason, KeepsReason, TellsPulse}
 
@@ -236,6 +236,20 @@ caused_early contents has_failed s k k' o o' (watched.Stopped event) fault ends 
     let same : fault ≡ faults.Part ends.stops.fault =
     subst (λ kept. IfSome kept (λ f. fault ≡ faults.Part f)) ends.stops.kept reason in
     subst (HasLinesCause (has_failed o')) (sym same) ends.stops.cause
+
+-- the run didn't stop for lack of a thread, and the watcher stops it for another reason
+pub threads_early : {S : Type 0} (contents : S → Option (List ℕ)) (has_failed : S → Bool) (s : Scenario)
+    (k k' : LineWriter) (o o' : S) (end : WatchedFault) (fault : LinesFault)
+    → ScenarioEndsAt (TellsPulse contents) (KeepsReason contents has_failed) s k o k' o' end
+    → IsReason k'.stopped end fault → WatchedHasThreads end → LinesHaveThreads fault
+threads_early contents has_failed s k k' o o' watched.Memory fault ends reason started =
+    subst LinesHaveThreads (sym reason) tt
+threads_early contents has_failed s k k' o o' (watched.Run stop) fault ends reason started =
+    subst LinesHaveThreads (sym reason) started
+threads_early contents has_failed s k k' o o' (watched.Stopped event) fault ends reason started =
+    let same : fault ≡ faults.Part ends.stops.fault =
+    subst (λ kept. IfSome kept (λ f. fault ≡ faults.Part f)) ends.stops.kept reason in
+    subst LinesHaveThreads (sym same) tt
 
 -- ---- the last line
 

@@ -1,7 +1,8 @@
 -- What a told run leaves on its writer (docs/OUTPUT.md, "JSON lines").
-use Rattle.std.specs.Prelude.{◌≡◌, ◌⊎◌, ℕ, is_some, Bool, List, map, take, Option, None, Result, Ok, Err}
+use Rattle.std.specs.Prelude.{◌≡◌, ◌≢◌, ◌⊎◌, ℕ, is_some, Bool, List, map, take, Option, None, Result, Ok, Err}
 use Rattle.std.specs.Io.KnownBytes.{Appends, Keeps}
 use Rattle.bench_core.specs.State.{State, new_state}
+use Rattle.bench_workers.specs.declared.event.RunRefusal.TheVariants.{NoThread}
 use Rattle.bench_workers.specs.Events.{Event}
 use Rattle.bench_workers.specs.Runs.{IsEventFault, IsRun}
 use Rattle.bench_workers.specs.Watching.{Seen, Shows}
@@ -67,3 +68,8 @@ LeavesLines old new s form (Err (faults.Run stop)) =
 abbrev pub HasLinesCause : (failed : Bool) → LinesFault → Type 0
 HasLinesCause failed (faults.Run stop) = Unit {0}
 HasLinesCause failed (faults.Part fault) = HasPartCause failed fault
+
+-- the run of the lines didn't stop for lack of a thread
+abbrev pub LinesHaveThreads : LinesFault → Type 0
+LinesHaveThreads (faults.Run stop) = stop.fault ≢ NoThread
+LinesHaveThreads (faults.Part fault) = Unit {0}

@@ -6,7 +6,7 @@ ghost use Rattle.scenario_explorer.specs.Explore.{Disagrees, ViolatesFirst};
 use crate::same_bench::of_bed;
 use bench_moves::Bed;
 use bench_scenario::{judged_of, run_watched, summary_of};
-use bench_workers::{Shown, Stop, Watcher};
+use bench_workers::{Shown, Stop, TrackedThreads, Watcher};
 use scenario_text::Scenario;
 use std::alloc::{AllocError, Global};
 use std::sync::Wait;
@@ -42,7 +42,8 @@ fn first_violation<T: Threads + Wait + Sync>(
     requires reads { (text : List ℕ) × ReadsText text scenario.now }
     ensures { IfOk result (λ o. IfSome o (ViolatesFirst scenario.now)) }
 {
-    let Ok(run) = run_watched(rt, alloc, scenario, 1, &mut Unwatched, &mut ()) else {
+    let mut threads = TrackedThreads::of(rt);
+    let Ok(run) = run_watched(&mut threads, alloc, scenario, 1, &mut Unwatched, &mut ()) else {
         return Err(AllocError);
     };
     let judged = judged_of(alloc, scenario, run.records.as_slice())?;

@@ -6,6 +6,7 @@ mod FrontLemmas
 mod ListLemmas
 mod NameLemmas
 mod NoiseLemmas
+mod OneScenario
 pub mod TableLemmas
 mod RefusedLaws
 mod WholeLemmas

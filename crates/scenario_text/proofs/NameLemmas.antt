@@ -63,6 +63,15 @@ kind_by_name name k =
     (chosen Named (bytes_eq name (codes "noise")) Noise None k (same_bytes name (codes "noise"))
     (λ found. absurd (nothing found)))))))
 
+-- a table names one kind of coins
+pub one_coins : (ms : Members) (c d : Coins) → HasText ms (codes "coins") (coins_name c)
+    → HasText ms (codes "coins") (coins_name d) → c ≡ d
+one_coins ms c d first second =
+    let both : Some (string (coins_name c)) ≡ Some (string (coins_name d)) = sym first ∙ second in
+    let same : coins_name c ≡ coins_name d = cc in
+    let named : Some c ≡ Some d = sym (coins_back c) ∙ (ap coins_named same ∙ coins_back d) in
+    cc
+
 -- a table names one kind
 pub one_kind : (ms : Members) (k l : Kind) → HasText ms (codes "program") (kind_name k)
     → HasText ms (codes "program") (kind_name l) → k ≡ l

@@ -1,5 +1,5 @@
--- What a refusal of a program says of the scenarios (docs/SCENARIOS.md, "Refusals").
-use Rattle.std.specs.Prelude.{ℕ, ◌+◌, List, take}
+-- What a refusal of a program says of the scenarios (docs/SCENARIOS.md, "Refusals"), and how many a text reads as.
+use Rattle.std.specs.Prelude.{◌≡◌, ℕ, ◌+◌, List, take}
 use Rattle.toml.specs.Data.{Members}
 use Rattle.scenario_text.specs.declared.limits.TheConstants.{MAX_TEXT}
 use Rattle.scenario_text.specs.declared.refusal.Place.{Place}
@@ -7,7 +7,7 @@ use Rattle.scenario_text.specs.declared.refusal.ScenarioError.{ScenarioError}
 use Rattle.scenario_text.specs.declared.scenario.Scenario.{Scenario}
 use Rattle.scenario_text.specs.Broken.{BrokenAt}
 use Rattle.scenario_text.specs.Texts.{IsDueUnlessMemory, ReadsText}
-use Rattle.scenario_text.specs.Views.{ReadsAs}
+use Rattle.scenario_text.specs.Views.{ReadsAs, draft_of}
 
 -- a table of which a program is refused reads as no scenario
 abbrev pub RefusedReadsAsNone : Type 0
@@ -22,3 +22,8 @@ FrontReadsAsWhole = (text : List ℕ) (s : Scenario) → ReadsText (take (MAX_TE
 abbrev pub FrontIsDueAsWhole : Type 0
 FrontIsDueAsWhole = (text : List ℕ) (error : ScenarioError) → IsDueUnlessMemory (take (MAX_TEXT + 1) text) error
     → IsDueUnlessMemory text error
+
+-- a text reads as at most one scenario: two have the same plain data
+abbrev pub OneScenario : Type 0
+OneScenario = (text : List ℕ) (s other : Scenario) → ReadsText text s → ReadsText text other
+    → draft_of s ≡ draft_of other

@@ -1,6 +1,6 @@
 //! Laws of scenarios.
 
-ghost use Rattle.scenario_text.specs.Laws.{FrontIsDueAsWhole, FrontReadsAsWhole, RefusedReadsAsNone};
+ghost use Rattle.scenario_text.specs.Laws.{FrontIsDueAsWhole, FrontReadsAsWhole, OneScenario, RefusedReadsAsNone};
 
 /// States that a table of which a program is refused reads as no scenario, like one that spells none.
 pub fn refused_reads_as_none()
@@ -11,4 +11,9 @@ pub fn refused_reads_as_none()
 pub fn front_reads_as_whole()
     ensures reads { FrontReadsAsWhole }
     ensures due { FrontIsDueAsWhole }
+{}
+
+/// States that a text reads as at most one scenario, as plain data.
+pub fn one_scenario()
+    ensures { OneScenario }
 {}

@@ -1,3 +1,4 @@
+use bench_workers::TrackedThreads;
 use command_answers::Ending;
 use requests::RunOptions;
 use run_commands::run::run;
@@ -14,8 +15,11 @@ fn run_commands_example(rt: HostRuntime) -> Result<(), Fail> {
         workers: 1,
         check: true,
     };
+    let mut threads = TrackedThreads::of(&rt);
     let mut report = Tracked::of(Vec::new(rt.alloc()));
-    let ending = run(&rt, rt.alloc(), options, &scenario, &mut report).map_err(|_| "a fault")?;
+    let ending = run(&mut threads, rt.alloc(), options, &scenario, &mut report).map_err(
+        |_| "a fault",
+    )?;
     assert_eq!(rt; ending, Ending::Done);
     Ok(())
 }

@@ -10,7 +10,7 @@ returns-in-Some g c =
     (g.O.Opener.may_fail c.args.program.now.opener) (g.C.WordsReader.asks c.args.program.now.reader) in
     let words = map g.S.AsStr.text c.args.words.now in
     does_on_file outside words (map (λ word. string_bytes word) c.as_slice.result.now) c.in-Ok-read_words.asked
-    c.in-Some.path _ _ _ _ _ _
+    c.in-Some.path _ _ _ _ _ _ _
     (subst (λ (made : List (String Global)).
     AreWordsFor outside.files None words (map (λ word. string_bytes word) made))
     (sym c.as_slice.ensures.value) c.in-Ok.ensures.words)
@@ -27,7 +27,7 @@ returns g c =
     (input_of (g.R.Source.remaining c.performed.new.input) (g.R.Source.calls c.performed.new.input)
     (g.R.Source.has_failed c.performed.new.input))
     (output_of (g.W.Write.contents c.args.out.now) (g.W.Sink.has_failed c.args.out.now))
-    (output_of (g.W.Write.contents c.performed.new.out) (g.W.Sink.has_failed c.performed.new.out)) _ _ _
+    (output_of (g.W.Write.contents c.performed.new.out) (g.W.Sink.has_failed c.performed.new.out)) _ _ _ _
     (subst (λ (made : List (String Global)).
     AreWordsFor outside.files None words (map (λ word. string_bytes word) made))
     (sym c.as_slice.ensures.value) c.in-Ok.ensures.words)

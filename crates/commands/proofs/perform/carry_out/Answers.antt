@@ -1,4 +1,5 @@
 use Rattle.std.proofs.Common.{List, ℕ, subst}
+use Rattle.command_answers.proofs.StartLemmas.{started_reading}
 use Rattle.command_answers.proofs.WriteLemmas.{of_reading}
 use Rattle.commands.specs.Perform.{Responds}
 use Rattle.commands.proofs.FrontLemmas.{responds_to, unread}
@@ -38,3 +39,6 @@ returns-in-Err-clause-cost g c = (c.input_of.result, c.input_of.ensures, c.in-Er
 
 pub returns-in-Err-clause-cause : goal.returns-in-Err-clause-cause
 returns-in-Err-clause-cause g c = of_reading _ _ c.in-Err.fault c.in-Err.ensures.fault
+
+pub returns-in-Err-clause-thread : goal.returns-in-Err-clause-thread
+returns-in-Err-clause-thread g c = started_reading _ _ c.in-Err.fault c.in-Err.ensures.fault

@@ -1,4 +1,6 @@
 use Rattle.command_answers.proofs.WriteLemmas.{memory_unwritten}
+use Rattle.command_answers.proofs.StartLemmas.{gives_started, memory_started}
+use Rattle.commands.proofs.StartLemmas.{sweep_started}
 use Rattle.commands.proofs.scenario.on_scenario.Goals as goal
 
 pub returns-in-TracedRun-clause-cause : goal.returns-in-TracedRun-clause-cause
@@ -12,3 +14,23 @@ returns-in-NodeProgram-clause-cause g c =
 pub returns-in-Explore-clause-cause : goal.returns-in-Explore-clause-cause
 returns-in-Explore-clause-cause g c =
     c.give-in-Explore.ensures.cause (memory_unwritten _ c.explore.result c.explore.ensures.fault)
+
+-- ---- threads
+
+pub returns-in-Sweep-clause-thread : goal.returns-in-Sweep-clause-thread
+returns-in-Sweep-clause-thread g c = sweep_started _ _ _ _ _ c.sweep.result c.sweep.ensures.left
+
+pub returns-in-TracedRun-clause-thread : goal.returns-in-TracedRun-clause-thread
+returns-in-TracedRun-clause-thread g c =
+    gives_started _ _ _ c.traced_run.result c.give.result (memory_started _ c.traced_run.result c.traced_run.ensures.fault)
+    c.give.ensures.left
+
+pub returns-in-NodeProgram-clause-thread : goal.returns-in-NodeProgram-clause-thread
+returns-in-NodeProgram-clause-thread g c =
+    gives_started _ _ _ c.node_program.result c.give-in-NodeProgram.result (memory_started _ c.node_program.result c.node_program.ensures.fault)
+    c.give-in-NodeProgram.ensures.left
+
+pub returns-in-Explore-clause-thread : goal.returns-in-Explore-clause-thread
+returns-in-Explore-clause-thread g c =
+    gives_started _ _ _ c.explore.result c.give-in-Explore.result (memory_started _ c.explore.result c.explore.ensures.fault)
+    c.give-in-Explore.ensures.left

@@ -1,3 +1,4 @@
+use Rattle.command_answers.proofs.StartLemmas.{leaves_started}
 use Rattle.commands.proofs.RunLemmas.{left_of_refusal, left_of_scenario}
 use Rattle.commands.proofs.scenario.scenario_bytes.Goals as goal
 
@@ -14,3 +15,6 @@ returns-in-Err-clause-left g c text taken =
 -- the parsed text is that of these bytes
 pub reject-requires : goal.reject-requires
 reject-requires g c = rw c.in-Err.is at c.in_ok-read.ensures.parsed
+
+pub returns-in-Err-clause-thread : goal.returns-in-Err-clause-thread
+returns-in-Err-clause-thread g c = leaves_started _ _ _ _ _ c.reject.result c.reject.ensures.left

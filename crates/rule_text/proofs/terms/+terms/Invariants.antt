@@ -45,8 +45,8 @@ decreases-place l = 20 * l.room + 1
 abbrev pub decreases-sorted : goal.decreases-sorted
 decreases-sorted l = 20 * l.room + 13
 
-abbrev pub decreases-other : goal.decreases-other
-decreases-other l = 20 * l.room + 14
+abbrev pub decreases-sorted_or_plain : goal.decreases-sorted_or_plain
+decreases-sorted_or_plain l = 20 * l.room + 14
 
 abbrev pub decreases-whole : goal.decreases-whole
 decreases-whole l = 20 * l.room + 15

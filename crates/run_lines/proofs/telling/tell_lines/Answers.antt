@@ -1,8 +1,8 @@
 use Rattle.std.specs.Prelude.{Err, IfErr, Ok}
 use Rattle.stream_io.proofs.PartLemmas.{handed_on}
 use Rattle.run_lines.specs.declared.fault.LinesFault.TheVariants.{Part}
-use Rattle.run_lines.specs.Telling.{HasLinesCause, LeavesLines}
-use Rattle.run_lines.proofs.LineLemmas.{all_judged, begins, caused_early, ends_early, ends_whole, first_fault}
+use Rattle.run_lines.specs.Telling.{HasLinesCause, LeavesLines, LinesHaveThreads}
+use Rattle.run_lines.proofs.LineLemmas.{all_judged, begins, caused_early, ends_early, ends_whole, first_fault, threads_early}
 use Rattle.run_lines.proofs.telling.tell_lines.Goals as goal
 
 pub returns-in_err-written-clause-left : goal.returns-in_err-written-clause-left
@@ -14,6 +14,11 @@ pub returns-in_err-written-clause-cause : goal.returns-in_err-written-clause-cau
 returns-in_err-written-clause-cause g c =
     handed_on (λ result. IfErr result (HasLinesCause (g.W.Sink.has_failed c.write_first.new.out)))
     (Part c.in_err-written.field-0.0) c.from_residual.result c.in_err-written.ensures.cause c.from_residual.ensures.1
+
+pub returns-in_err-written-clause-thread : goal.returns-in_err-written-clause-thread
+returns-in_err-written-clause-thread g c started =
+    handed_on (λ result. IfErr result LinesHaveThreads) (Part c.in_err-written.field-0.0) c.from_residual.result tt
+    c.from_residual.ensures.1
 
 pub write_last-requires : goal.write_last-requires
 write_last-requires g c =
@@ -45,6 +50,12 @@ returns-in-Err-clause-cause g c =
     c.run_watched.new.watcher c.write_first.new.out c.run_watched.new.sink c.in-Err.end c.fault.result
     c.in-Err.ensures.ends c.fault.ensures
 
+pub returns-in-Err-clause-thread : goal.returns-in-Err-clause-thread
+returns-in-Err-clause-thread g c started =
+    threads_early g.W.Write.contents g.W.Sink.has_failed c.args.scenario.now c.new-writer.result
+    c.run_watched.new.watcher c.write_first.new.out c.run_watched.new.sink c.in-Err.end c.fault.result
+    c.in-Err.ensures.ends c.fault.ensures (c.in-Err.ensures.thread started)
+
 pub returns-in_err-agrees-clause-left : goal.returns-in_err-agrees-clause-left
 returns-in_err-agrees-clause-left g c =
     let contents = g.W.Write.contents in
@@ -65,6 +76,11 @@ returns-in_err-agrees-clause-cause g c =
     handed_on (λ result. IfErr result (HasLinesCause (g.W.Sink.has_failed c.write_last.new.out)))
     (Part c.in_err-agrees.field-0.0) c.from_residual-in_err-agrees.result c.in_err-agrees.ensures.cause
     c.from_residual-in_err-agrees.ensures.1
+
+pub returns-in_err-agrees-clause-thread : goal.returns-in_err-agrees-clause-thread
+returns-in_err-agrees-clause-thread g c started =
+    handed_on (λ result. IfErr result LinesHaveThreads) (Part c.in_err-agrees.field-0.0)
+    c.from_residual-in_err-agrees.result tt c.from_residual-in_err-agrees.ensures.1
 
 pub returns-clause-left : goal.returns-clause-left
 returns-clause-left g c =
