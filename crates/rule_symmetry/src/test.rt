@@ -32,9 +32,7 @@ fn is_symmetric_term_of(t: &Term, counts: u32) -> bool
         }
         Term::Count(t) | Term::Least(t) => counts < 3 && is_symmetric_term_of(t, counts + 1),
         Term::Sorted(k, e) => {
-            counts < 3
-                && is_symmetric_term_of(k, counts)
-                && is_symmetric_term_of(e, counts + 1)
+            counts < 3 && is_symmetric_term_of(k, counts) && is_symmetric_term_of(e, counts + 1)
         }
     }
 }
