@@ -17,7 +17,7 @@ import tempfile
 
 sys.dont_write_bytecode = True
 from built_program import TOP, answer, named_program, on_all_processors, tell
-from check_rules import Drawing, drawn_case, listed, options_of, samples, sizes_of, spoiled
+from check_rules import Drawing, drawn_case, listed, options_of, refusal_of, samples, sizes_of, spoiled
 from rule_meaning import pulse
 from rule_text import MAX_FRAMES
 
@@ -36,7 +36,7 @@ for node:
     let x_1 = node
     if recv == x_1: NODES = NODES + 1
 let least = least condition: mail[condition] >= NODES
-let number_at = sorted[f * (n > 3)] insert_number: mail[insert_number] + x_1
+let number_at = sorted[f * (n > 3)] insert_number: mail[insert_number] + int
 clock = least + number_at if least < none else count condition: mail[condition] == NODES
 for _pulse: send clock + int to _pulse
 """
@@ -190,7 +190,8 @@ def main():
     examples = [(it.stem, it.read_text(encoding="utf-8")) for it in sorted(TOP.glob("examples/rules/*.rule"))]
     examples.append(("names", NAMED))
     rows = [(*it, nodes, cases_of(dice, nodes, CASES if nodes == 4 else 100)) for it in examples for nodes in NODES]
-    drawn = [(Drawing(dice).rule(), number, cases_of(dice, 4, DRAWN_CASES)) for number in range(DRAWN)]
+    rules = [it for it in (Drawing(dice).rule() for _ in range(2 * DRAWN)) if not refusal_of(it)]
+    drawn = [(text, number, cases_of(dice, 4, DRAWN_CASES)) for number, text in enumerate(rules[:DRAWN])]
     texts = [spoiled(dice, dice.choice(samples())) for _ in range(FAULTY)]
     with tempfile.TemporaryDirectory() as made:
         room = pathlib.Path(made)

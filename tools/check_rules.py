@@ -148,10 +148,22 @@ def case_fault(program, image, text, sizes, case):
     return [] if got == wanted else [f"{words[1:]}: {got} in place of {wanted}:\n{text}"]
 
 
+def refusal_of(text):
+    """The line that rejects a text, by the second reader; None if it is a rule."""
+    try:
+        Reader(text.encode()).rule()
+    except Refused as why:
+        return f"{why}\n".encode()
+    return None
+
+
 def rule_faults(program, row):
-    """What is wrong of a rule: its compilation, its verdict, its runs."""
+    """What is wrong of a rule: its compilation, its verdict, its runs. One with no place of `sorted` is rejected."""
     text, seed = row
     dice = random.Random(seed)
+    if refusal_of(text):
+        yield from text_fault(program, (text,))
+        return
     for nodes in NODES:
         sizes = sizes_of(nodes)
         got = answer(program, ["compile", *options_of(sizes)], text.encode())
@@ -176,12 +188,7 @@ def spoiled(dice, text):
 def text_fault(program, row):
     """Whether a text is refused by the same error, or taken as well."""
     (text,) = row
-    got = answer(program, ["compile", "--memory=256"], text.encode())
-    try:
-        Reader(text.encode()).rule()
-        wanted = None
-    except Refused as why:
-        wanted = f"{why}\n".encode()
+    got, wanted = answer(program, ["compile", "--memory=256"], text.encode()), refusal_of(text)
     is_same = got.out == wanted if wanted else not got.out.startswith(b"refused rule ") or b" line " not in got.out
     return [] if is_same else [f"{got.out[:80]} in place of {wanted}:\n{text}"]
 

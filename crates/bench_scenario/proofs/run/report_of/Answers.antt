@@ -8,18 +8,24 @@ returns-in-Err g c =
     let stopped = fault_met c.args.scenario.now _ _ c.in-Err.fault.event c.in-Err.fault.fault
     c.in-Ok-bench_for.ensures.setup c.in-Ok.ensures c.in-Err.ensures.fault in
     record {
-      fault = stopped;
-      want = fault_due reads.0 c.args.scenario.now c.in-Err.fault.event c.in-Err.fault.fault
-          reads.1 stopped
-          (c.in-Err.ensures.open refl);
+      told = record {
+        fault = stopped;
+        want = fault_due reads.0 c.args.scenario.now c.in-Err.fault.event c.in-Err.fault.fault
+            reads.1 stopped
+            (c.in-Err.ensures.open refl);
+      };
+      thread = λ started. c.in-Err.ensures.thread started;
     }
 
 pub returns : goal.returns
 returns g c = record {
-  records = _;
-  memories = _;
-  run = run_met c.args.scenario.now _ _ _ _ c.in-Ok-bench_for.ensures.setup c.in-Ok.ensures
-      c.in-Ok-run_events_on.ensures.run;
-  whole = c.in-Ok-report.ensures.text;
-  verdict = c.in-Ok-report.ensures.agrees;
+  told = record {
+    records = _;
+    memories = _;
+    run = run_met c.args.scenario.now _ _ _ _ c.in-Ok-bench_for.ensures.setup c.in-Ok.ensures
+        c.in-Ok-run_events_on.ensures.run;
+    whole = c.in-Ok-report.ensures.text;
+    verdict = c.in-Ok-report.ensures.agrees;
+  };
+  thread = λ started. tt;
 }
