@@ -20,6 +20,7 @@ LAWS = "has laws alone, which a proof cites: there is no call to run"
 
 # crates whose heads have no example, with the reason
 WITHOUT_EXAMPLE = {
+    "bench_names": LAWS,
     "clock_steps": LAWS,
     "quorums": LAWS,
     "rule_grammar": LAWS,

@@ -24,6 +24,7 @@ mod rule_listing_example;
 mod rule_nodes_example;
 mod rule_notes_example;
 mod rule_programs_example;
+mod rule_symmetry_example;
 mod rule_syntax_example;
 mod rule_text_example;
 mod step_beginnings_example;
