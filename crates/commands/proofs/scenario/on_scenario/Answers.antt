@@ -18,7 +18,7 @@ returns-in-Explore-clause-cause g c =
 -- ---- threads
 
 pub returns-in-Sweep-clause-thread : goal.returns-in-Sweep-clause-thread
-returns-in-Sweep-clause-thread g c = sweep_started _ _ _ _ _ c.sweep.result c.sweep.ensures.left
+returns-in-Sweep-clause-thread g c = sweep_started _ c.args.scenario.now _ _ _ c.sweep.result c.sweep.ensures.left
 
 pub returns-in-TracedRun-clause-thread : goal.returns-in-TracedRun-clause-thread
 returns-in-TracedRun-clause-thread g c =
