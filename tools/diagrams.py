@@ -47,8 +47,8 @@ TITLE = Style(size=14, weight="bold")
 class Canvas:
     """The parts of an SVG, in the order in which they are drawn."""
 
-    def __init__(self, high, title):
-        self.high, self.title, self.parts = high, title, []
+    def __init__(self, high, title, wide=WIDTH):
+        self.high, self.title, self.wide, self.parts = high, title, wide, []
 
     def add(self, part):
         self.parts.append(part)
@@ -98,9 +98,9 @@ class Canvas:
             f'<marker id="a{number}" {HEAD}><path d="M0 0L8 4L0 8z" fill="{colour}"/></marker>'
             for number, colour in enumerate(ARROWED)
         )
-        size = f'width="{WIDTH}" height="{self.high}" viewBox="0 0 {WIDTH} {self.high}"'
+        size = f'width="{self.wide}" height="{self.high}" viewBox="0 0 {self.wide} {self.high}"'
         head = f'<svg xmlns="http://www.w3.org/2000/svg" {size} font-family="sans-serif">'
-        ground = f'<rect width="{WIDTH}" height="{self.high}" fill="{WHITE}"/>'
+        ground = f'<rect width="{self.wide}" height="{self.high}" fill="{WHITE}"/>'
         title = f"<title>{escape(self.title)}</title>"
         return "\n".join([head, title, f"<defs>{heads}</defs>", ground, *self.parts, "</svg>\n"])
 
@@ -531,6 +531,8 @@ AREAS = (
     (INK, "commands and programs", ("",)),
 )
 CRATE, ROOM, ROW, LANE = (96, 26), 101, 60, 15
+# as wide as the row with the most crates and lines
+CRATES_WIDTH = 1400
 LONG_NAME = 16
 
 
@@ -567,10 +569,10 @@ def draw_route(canvas, route, at):
 
 def crates():
     rows, along, routes = layers.layout(
-        crates_with_uses(), lambda it: LANE if isinstance(it, layers.Pass) else ROOM, WIDTH - 20
+        crates_with_uses(), lambda it: LANE if isinstance(it, layers.Pass) else ROOM, CRATES_WIDTH - 20
     )
     high = ROW * len(rows)
-    canvas = Canvas(high + 40, "The crates in layers: each is above the crates that it uses")
+    canvas = Canvas(high + 40, "The crates in layers: each is above the crates that it uses", CRATES_WIDTH)
     at = {it: (along[it] + 10, high - ROW * number - 30) for number, row in enumerate(rows) for it in row}
     for route in routes:
         draw_route(canvas, route, at)
