@@ -114,7 +114,7 @@ def clocks_of(example):
 def violations_of(example):
     """The pulses of an example's report in which agreement is violated."""
     report = (TOP / "examples" / f"{example}.report").read_text(encoding="utf-8")
-    return {int(pulse) for pulse in re.findall(r"^pulse (\d+) .* agree no$", report, re.M)}
+    return {int(pulse) for pulse in re.findall(r"^pulse (\d+) .* agree no\b", report, re.M)}
 
 
 # ---- one attack on two benches
