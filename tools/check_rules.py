@@ -2,10 +2,10 @@
 """Compiles rules, runs them, and compares with a second implementation of their meaning: tools/check_rules.py [PROGRAM]
        check_rules.py --drawn NUMBER [PROGRAM]
 
-Rules are those of examples/rules/, one of 2,048 lines and drawn ones. Each that compiles is verified, and run by `exec` in drawn cases: the
-memory that it leaves and what it sends must be those of tools/rule_meaning.py. Texts with drawn faults must be refused
-with the same error at the same place, or mean the same. The text that crates/clock_rule proves is that of
-examples/rules/clock.rule. --drawn draws so many rules; the gate tries fewer. PROGRAM is as for check_rows.py.
+Rules are those of examples/rules/, one of 2,048 lines and drawn ones. Each that compiles is verified, and run by `exec`
+in drawn cases: the memory that it leaves and what it sends must be those of tools/rule_meaning.py. Texts with drawn
+faults must be refused with the same error at the same place, or mean the same. The text that crates/clock_rule proves is
+that of examples/rules/clock.rule. --drawn draws so many rules; the gate tries fewer. PROGRAM is as for check_rows.py.
 """
 import argparse
 import random
