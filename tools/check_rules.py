@@ -1,10 +1,11 @@
 #!/usr/bin/env python3
 """Compiles rules, runs them, and compares with a second implementation of their meaning: tools/check_rules.py [PROGRAM]
+       check_rules.py --drawn NUMBER [PROGRAM]
 
-Rules are those of examples/rules/ and drawn ones. Each that compiles is verified, and run by `exec` in drawn cases: the
-memory that it leaves and what it sends must be those of tools/rule_meaning.py. Texts with drawn faults must be refused
-with the same error at the same place, or mean the same. The text that crates/clock_rule proves is that of
-examples/rules/clock.rule. PROGRAM is as for check_rows.py.
+Rules are those of examples/rules/, one of 2,048 lines and drawn ones. Each that compiles is verified, and run by `exec`
+in drawn cases: the memory that it leaves and what it sends must be those of tools/rule_meaning.py. Texts with drawn
+faults must be refused with the same error at the same place, or mean the same. The text that crates/clock_rule proves is
+that of examples/rules/clock.rule. --drawn draws so many rules; the gate tries fewer. PROGRAM is as for check_rows.py.
 """
 import argparse
 import random
@@ -106,8 +107,12 @@ class Drawing:
         return text + "".join(self.statement(lets, targets, 0, 2) for _ in range(self.dice.randint(1, 4)))
 
 
+# As many lines as a rule may have. One node is room enough for their code.
+LONGEST = "for j:\n    clock = j + 1\n" * 1024
+
+
 def samples():
-    return [it.read_text(encoding="utf-8") for it in sorted(TOP.glob("examples/rules/*.rule"))]
+    return [*(it.read_text(encoding="utf-8") for it in sorted(TOP.glob("examples/rules/*.rule"))), LONGEST]
 
 
 def proved_text_faults():
@@ -193,10 +198,22 @@ def text_fault(program, row):
     return [] if is_same else [f"{got.out[:80]} in place of {wanted}:\n{text}"]
 
 
+def drawn_rules():
+    """How many rules are drawn: those of the gate, or as many as the command line says."""
+    if sys.argv[1:2] != ["--drawn"]:
+        return DRAWN
+    if not sys.argv[2:] or not sys.argv[2].isdecimal():
+        sys.exit(__doc__)
+    drawn = int(sys.argv[2])
+    del sys.argv[1:3]
+    return drawn
+
+
 def main():
+    drawn = drawn_rules()
     program, dice = named_program(), random.Random(SEED)
     sys.setrecursionlimit(MAX_FRAMES)
-    rules = [*samples(), *(Drawing(dice).rule() for _ in range(DRAWN))]
+    rules = [*samples(), *(Drawing(dice).rule() for _ in range(drawn))]
     texts = [spoiled(dice, dice.choice(rules)) for _ in range(FAULTY)]
     numbered = [(text, number) for number, text in enumerate(rules)]
     found = proved_text_faults()

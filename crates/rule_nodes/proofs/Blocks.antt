@@ -36,14 +36,14 @@ use Rattle.rule_nodes.specs.declared.numbers.Tally.TheVariants.{HowMany, LeastMe
 use Rattle.rule_nodes.specs.declared.numbers.Source.{Source}
 use Rattle.rule_nodes.specs.declared.numbers.Source.TheVariants.{Constant, FromLocal, FromWord, Computed}
 use Rattle.rule_syntax.specs.declared.syntax.Term.{Term}
-use Rattle.rule_syntax.specs.declared.syntax.Term.TheVariants.{Me, Coin, Local, Binary', Count', Least'}
+use Rattle.rule_syntax.specs.declared.syntax.Term.TheVariants.{Number, Me, Coin, Local, Binary', Count', Least'}
 use Rattle.rule_syntax.specs.declared.syntax.Statement.{Statement}
 use Rattle.rule_syntax.specs.declared.syntax.Statement.TheVariants.{Nothing, Then', Let', Assign, If', For', SendAll, SendTo}
 use Rattle.rule_syntax.specs.declared.syntax.Operator.TheVariants.{Compute}
 use Rattle.rule_nodes.specs.Meaning.{NodeState, apply, value, word_at, message_from, truth, with_local, assigned, all_assigned, with_sent, sent_below, each_below, after}
 use Rattle.rule_nodes.specs.Operands.{is_constant, constant_number, is_local, is_operand, is_asked, is_steady, depth_behind, term_source}
 use Rattle.rule_nodes.specs.Fits.{HasPlace, Fits, TargetFits, AssignmentFits, BlockFits}
-use Rattle.rule_nodes.specs.Code.{number_place, fetch_code, keep_code, copy, cond_of, tallied_code, tally_test, term_code, stored_code, passed_code, send_to_constant_code, assign_code, place_code, word_code, set_code, given_code, alu_op_of, change_place, changing_insn, one_code, also_code, assignment_code, get_code, send_code, send_codes, send_all_code, receiver_code, send_to_code, each_code, is_nothing, block_code}
+use Rattle.rule_nodes.specs.Code.{number_place, fetch_code, keep_code, copy, cond_of, tallied_code, tally_test, term_code, stored_code, passed_code, idle_code, send_to_constant_code, assign_code, place_code, word_code, set_code, given_code, alu_op_of, change_place, changing_insn, one_code, also_code, assignment_code, get_code, send_code, send_codes, send_all_code, receiver_code, send_to_code, each_code, is_nothing, block_code}
 use Rattle.rule_nodes.proofs.Small.{compared, imm_low, apply_small}
 use Rattle.rule_nodes.proofs.Forms.{copies, operates_in, stores_number, stays, once, chain, further}
 use Rattle.rule_nodes.proofs.Words.{word_small, word_stored, word_low, word_length, word_bytes}
@@ -457,6 +457,19 @@ module _ (program : List Insn) (env : Setting) (last : ℕ) (solid : (k : ℕ) �
         fact = g.fact.holds;
       }
 
+  idle_runs : (z : Sizes) (J : List ℕ) (d : ℕ) (u : NodeState) (s : MachineState) → IsSized z env
+      → All (λ j. j < z.nodes) J → d ≤ PLACES → Holds env d u s → Stands program s.frame.slot idle_code
+      → s.frame.slot + 1 ≤ last → Leads s idle_code (Holds env d u)
+  idle_runs z J d u s sized nodes few h stands room =
+      let c = term_runs program env last solid (Number 0) z J d d Value u s sized nodes few (omega arith) (omega arith) h
+      stands (omega (arith, room)) in
+      record {
+        new = c.new;
+        run = c.run;
+        slot = c.slot;
+        fact = still_holds env d d u s c.new (omega arith) h c.fact.same;
+      }
+
   constant_runs : (e k : Term) (z : Sizes) (J : List ℕ) (d : ℕ) (u : NodeState) (s : MachineState)
       → is_constant k ≡ true → IsSized z env → All (λ j. j < z.nodes) J → d ≤ PLACES → Fits e z (length J) d d
       → Holds env d u s
@@ -475,19 +488,16 @@ module _ (program : List Insn) (env : Setting) (last : ℕ) (solid : (k : ℕ) �
       let End : ℕ → NodeState = λ j. if nat_lt j z.nodes then with_sent j v u else u in
       let P : List Insn → Type 0 = λ c. Stands program s.frame.slot c → s.frame.slot + length c ≤ last
       → Leads s c (Holds env d (End m)) in
-      let both : P (if nat_lt m z.nodes then code else []) = elim (cases_Bool (nat_lt m z.nodes)) [
-        | inl so ↦ subst P (sym (cond-true (nat_lt m z.nodes) code [] so)) (λ st l.
+      let both : P (if nat_lt m z.nodes then code else idle_code) = elim (cases_Bool (nat_lt m z.nodes)) [
+        | inl so ↦ subst P (sym (cond-true (nat_lt m z.nodes) code idle_code so)) (λ st l.
             subst (λ (w : NodeState). Leads s code (Holds env d w)) (sym (cond-true (nat_lt m z.nodes) (with_sent m v u) u so))
             (passed_runs (term_source e z J) e z J d m u s (source_is program env last solid e z J d d u sized nodes fits)
             sized nodes few (ltb-true m z.nodes so) fits h st l))
-        | inr other ↦ subst P (sym (cond-false (nat_lt m z.nodes) code [] other)) (λ st l. record {
-          new = s;
-          run = stays program env s;
-          slot = omega arith;
-          fact = subst (λ (w : NodeState). Holds env d w s) (sym (cond-false (nat_lt m z.nodes) (with_sent m v u) u other)) h;
-        })
+        | inr other ↦ subst P (sym (cond-false (nat_lt m z.nodes) code idle_code other)) (λ st l.
+            subst (λ (w : NodeState). Leads s idle_code (Holds env d w))
+            (sym (cond-false (nat_lt m z.nodes) (with_sent m v u) u other)) (idle_runs z J d u s sized nodes few h st l))
       ] in
-      subst (λ (j : ℕ). Leads s (if nat_lt m z.nodes then code else []) (Holds env d (End j))) is (both stands room)
+      subst (λ (j : ℕ). Leads s (if nat_lt m z.nodes then code else idle_code) (Holds env d (End j))) is (both stands room)
 
   -- with the receiver m in r0, and a number that is found
   receiver_runs : (x : Source) (d v m : ℕ) (z : Sizes) (u : NodeState) (t : MachineState) → IsSized z env → v < 2 ^ 32

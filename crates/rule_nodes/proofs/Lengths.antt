@@ -35,7 +35,7 @@ use Rattle.rule_syntax.specs.declared.syntax.Statement.TheVariants.{Let', For', 
 use Rattle.rule_nodes.specs.Meaning.{apply_operator}
 use Rattle.rule_nodes.specs.Operands.{is_constant, is_local, is_operand, is_steady, constant_number, depth_behind, fetched_source, term_source, IsSourceWithin}
 use Rattle.rule_nodes.specs.Fits.{Fits, AssignmentFits, BlockFits}
-use Rattle.rule_nodes.specs.Code.{number_place, fetch_code, keep_code, set_number, set_node, copy, mirror, jump_on, jump_by, jump_at, jump_register, alu_op_of, far_of, when_of, beyond_purpose, behind_test, by_value, truth_code, get_code, load_code, operand_code, by_operator, left_code, right_code, beside_code, two_code, binary_code, message_code, message_by, tally_step, tally_codes, tallied_code, tally_code, tally_test, items_code, pass_codes, nearer_end, passes_before, sorted_code, term_code, stored_code, let_code, assign_code, place_code, word_code, set_code, given_code, change_place, changing_insn, one_code, also_code, send_codes, send_code, send_all_code, passed_code, send_to_constant_code, receiver_code, send_to_code, each_code, assignment_code, block_code}
+use Rattle.rule_nodes.specs.Code.{number_place, fetch_code, keep_code, set_number, set_node, copy, mirror, jump_on, jump_by, jump_at, jump_register, alu_op_of, far_of, when_of, beyond_purpose, behind_test, by_value, truth_code, get_code, load_code, operand_code, by_operator, left_code, right_code, beside_code, two_code, binary_code, message_code, message_by, tally_step, tally_codes, tallied_code, tally_code, tally_test, items_code, pass_codes, nearer_end, passes_before, sorted_code, term_code, stored_code, let_code, assign_code, place_code, word_code, set_code, given_code, change_place, changing_insn, one_code, also_code, send_codes, send_code, send_all_code, passed_code, idle_code, send_to_constant_code, receiver_code, send_to_code, each_code, assignment_code, block_code}
 use Rattle.rule_nodes.specs.Refusals.{IsUnmade}
 use Rattle.rule_nodes.proofs.Sources.{is_found}
 use Rattle.rule_nodes.proofs.TallyLaws.{steps_alike}
@@ -588,7 +588,8 @@ pub passed_part : (e : Term) (z : Sizes) (J : List ℕ) (d j : ℕ) → j < z.no
 passed_part e z J d j lt =
     let code = passed_code (term_source e z J) j (term_code e z J d Value) in
     let l = passed_long (term_source e z J) j (term_code e z J d Value) (found_short e z J d) in
-    let there : (if nat_lt j z.nodes then code else []) ≡ code = cond-true (nat_lt j z.nodes) code [] (lt-ltb j z.nodes lt) in
+    let there : (if nat_lt j z.nodes then code else idle_code) ≡ code =
+    cond-true (nat_lt j z.nodes) code idle_code (lt-ltb j z.nodes lt) in
     omega (arith, l, ap length there)
 
 pub passed_within : (e : Term) (x : Source) (z : Sizes) (J : List ℕ) (d : ℕ) → x ≡ term_source e z J → z.memory ≤ 256

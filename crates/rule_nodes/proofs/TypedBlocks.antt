@@ -44,7 +44,7 @@ use Rattle.rule_syntax.specs.declared.syntax.Statement.{Statement}
 use Rattle.rule_syntax.specs.declared.syntax.Statement.TheVariants.{Nothing, Then', Let', Assign, If', For', SendAll, SendTo}
 use Rattle.rule_nodes.specs.Operands.{is_constant, constant_number, is_local, is_operand, is_steady, depth_behind, term_source}
 use Rattle.rule_nodes.specs.Fits.{HasPlace, Fits, TargetFits, AssignmentFits, BlockFits}
-use Rattle.rule_nodes.specs.Code.{number_place, fetch_code, keep_code, copy, set_node, cond_of, jump_at, tallied_code, tally_test, term_code, stored_code, passed_code, send_to_constant_code, assign_code, place_code, word_code, set_code, given_code, alu_op_of, change_place, changing_insn, one_code, also_code, assignment_code, get_code, set_number, send_code, send_codes, send_all_code, receiver_code, send_to_code, each_code, is_nothing, block_code, tail_code, rule_code}
+use Rattle.rule_nodes.specs.Code.{number_place, fetch_code, keep_code, copy, set_node, cond_of, jump_at, tallied_code, tally_test, term_code, stored_code, passed_code, idle_code, send_to_constant_code, assign_code, place_code, word_code, set_code, given_code, alu_op_of, change_place, changing_insn, one_code, also_code, assignment_code, get_code, set_number, send_code, send_codes, send_all_code, receiver_code, send_to_code, each_code, is_nothing, block_code, tail_code, rule_code}
 use Rattle.rule_nodes.proofs.Typing.{memory_place, word, written_at, state, known, plain, valued, proper, within, proper_known, some_word, into, Grows, grows_none, grows_one, placed_in, register_kind, short, Typing, typed_then, typed_as, typed_none, one_on, one_fork, number_typed, fetch_place, keep_place, fetch_typed, keep_typed, change_typed, AllSound, seen}
 use Rattle.rule_nodes.proofs.Whole.{all_begin, rule_length, ones_rule}
 use Rattle.rule_nodes.specs.Ends.{AreSizes}
@@ -651,16 +651,15 @@ module _ (program : List Insn) (shape : Extent) (last : ℕ) (solid : (k : ℕ) 
   constant_typed : (found : Bool) (e : Term) (z : Sizes) (J : List ℕ) (d slot j : ℕ) → nat_lt j z.nodes ≡ found
       → z.nodes ≡ shape.nodes → 1 ≤ z.nodes → z.nodes ≤ 64 → z.memory ≡ shape.memory → d ≤ PLACES
       → Fits e z (length J) d d
-      → slot + length (if found then passed_code (term_source e z J) j (term_code e z J d Value) else []) ≤ last
-      → BlockTyped d slot (if found then passed_code (term_source e z J) j (term_code e z J d Value) else [])
+      → slot + length (if found then passed_code (term_source e z J) j (term_code e z J d Value) else idle_code) ≤ last
+      → BlockTyped d slot (if found then passed_code (term_source e z J) j (term_code e z J d Value) else idle_code)
   constant_typed true e z J d slot j is same some few room small fits le =
       let memory = λ (x : Source) (there : IsThere x d z.memory). subst (λ (m : ℕ). IsThere x d m) room there in
       passed_typed (term_source e z J) e z J d slot j (memory (term_source e z J) (source_there e z J (length J) d d fits))
       same some few room small (ltb-true j z.nodes is) fits le
   constant_typed false e z J d slot j is same some few room small fits le =
-      let e1 : slot ≡ slot + 0 = omega arith in
-      typed_at program shape last solid slot slot (slot + 0) [] (C (plain d) slot) (plain d) e1
-      (typed_none program shape last solid slot (C (plain d) slot))
+      one_on program shape last solid slot (set_number R0 0) (plain d) _ (plain d) refl refl refl
+      (into _ d Unset Unset Unset tt tt tt refl) (proper_known d Unset Unset Unset tt tt tt) (keeps_own _ _ _ refl) le
 
   found_to_typed : (x : Source) (k : Term) (z : Sizes) (J : List ℕ) (d slot : ℕ) → is_found x ≡ true
       → IsThere x d shape.memory → z.nodes ≡ shape.nodes → 1 ≤ z.nodes → z.nodes ≤ 64 → z.memory ≡ shape.memory

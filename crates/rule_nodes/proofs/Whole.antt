@@ -48,7 +48,7 @@ use Rattle.rule_syntax.specs.declared.syntax.Statement.TheVariants.{Nothing, The
 use Rattle.rule_nodes.specs.Meaning.{initial_state}
 use Rattle.rule_nodes.specs.Operands.{is_constant, constant_number, is_local, is_operand, is_steady, depth_behind, term_source}
 use Rattle.rule_nodes.specs.Fits.{BlockFits}
-use Rattle.rule_nodes.specs.Code.{number_place, fetch_code, keep_code, start_code, increment_code, load_place, set_number, set_node, get_code, operand_code, load_code, left_code, right_code, beside_code, binary_code, mirror, message_by, copy, truth_code, by_value, by_test, by_operator, two_code, choice_code, if_code, is_nothing, decides, both_far, both_code, jump_on, jump_by, jump_register, message_code, tally_start, tally_step, tally_codes, tallied_code, tally_test, items_code, exchange_code, exchange_codes, pass_code, pass_codes, nearer_end, passes_before, sorted_code, term_code, assign_code, place_code, word_code, set_code, change_place, given_code, alu_op_of, changing_insn, one_code, also_code, assignment_code, stored_code, let_code, send_code, send_codes, send_all_code, passed_code, receiver_code, send_to_code, each_code, block_code, tail_code, rule_code}
+use Rattle.rule_nodes.specs.Code.{number_place, fetch_code, keep_code, start_code, increment_code, load_place, set_number, set_node, get_code, operand_code, load_code, left_code, right_code, beside_code, binary_code, mirror, message_by, copy, truth_code, by_value, by_test, by_operator, two_code, choice_code, if_code, is_nothing, decides, both_far, both_code, jump_on, jump_by, jump_register, message_code, tally_start, tally_step, tally_codes, tallied_code, tally_test, items_code, exchange_code, exchange_codes, pass_code, pass_codes, nearer_end, passes_before, sorted_code, term_code, assign_code, place_code, word_code, set_code, change_place, given_code, alu_op_of, changing_insn, one_code, also_code, assignment_code, stored_code, let_code, send_code, send_codes, send_all_code, passed_code, idle_code, receiver_code, send_to_code, each_code, block_code, tail_code, rule_code}
 use Rattle.rule_nodes.specs.Ends.{AreSizes, IsRuleEnd}
 use Rattle.rule_nodes.proofs.Forms.{leads_add, once, chain, further}
 use Rattle.rule_nodes.proofs.States.{stands_front, stands_back, Holds, IsSized}
@@ -387,9 +387,10 @@ ones_block (SendAll e) z J d = ones_send_all (term_source e z J) d z.nodes (term
     (ones_term e z J d Value)
 ones_block (SendTo e k) z J d =
     let code = passed_code (term_source e z J) (constant_number k z J) (term_code e z J d Value) in
-    ones_cond (is_constant k) (if nat_lt (constant_number k z J) z.nodes then code else []) _
-    (ones_cond (nat_lt (constant_number k z J) z.nodes) code []
-    (ones_passed (term_source e z J) (constant_number k z J) (term_code e z J d Value) (ones_term e z J d Value)) tt)
+    ones_cond (is_constant k) (if nat_lt (constant_number k z J) z.nodes then code else idle_code) _
+    (ones_cond (nat_lt (constant_number k z J) z.nodes) code idle_code
+    (ones_passed (term_source e z J) (constant_number k z J) (term_code e z J d Value) (ones_term e z J d Value))
+    (refl, tt))
     (ones_send_to (term_source e z J) d z.nodes (term_code e z J d Value)
     (term_code k z J (depth_behind (is_operand e) d) Value) (ones_term e z J d Value)
     (ones_term k z J (depth_behind (is_operand e) d) Value))

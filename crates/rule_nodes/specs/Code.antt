@@ -450,9 +450,13 @@ abbrev pub passed_code : Source → ℕ → List Insn → List Insn
 passed_code Computed j code = code ++ send_code Computed j
 passed_code x j code = send_code x j
 
+-- An instruction without effect. So each statement has one, and the limit of slots bounds the work of the compiler.
+abbrev pub idle_code : List Insn
+idle_code = set_number R0 0 ∷ []
+
 -- to the node of a constant, if there is one
 abbrev pub send_to_constant_code : Source → ℕ → ℕ → List Insn → List Insn
-send_to_constant_code x j n code = if nat_lt j n then passed_code x j code else []
+send_to_constant_code x j n code = if nat_lt j n then passed_code x j code else idle_code
 
 -- a found number to the node in r0, if there is one
 abbrev pub receiver_code : Source → ℕ → List Insn

@@ -11,12 +11,12 @@ ghost use Rattle.rule_nodes.specs.Refusals.{IsUnmade};
 
 use crate::assignments::{assignment, placed_of};
 use crate::errors::CompileError;
-use crate::insns::{copy_of, jump_at_of, keep_of, place_of, set_node_of};
+use crate::insns::{copy_of, jump_at_of, keep_of, place_of, set_node_of, set_number_of};
 use crate::numbers::{PLACES, Purpose, Source};
 use crate::operands::{
     constant_of, depth_behind_of, get_of, is_constant_of, is_operand_of, source,
 };
-use crate::parts::{if_of, if_test, joined, short, within};
+use crate::parts::{if_of, if_test, joined, short, single, within};
 use crate::terms::term;
 use bpf_insn::{Insn, MAX_SLOTS, Reg};
 use rule_syntax::{Comparison, Sizes, Statement, Term};
@@ -177,7 +177,7 @@ fn passed(
     }
 }
 
-/// Returns the code that sends a number to the node of a constant. There is none if there is no such node.
+/// Returns the code that sends a number to the node of a constant. It has no effect if there is no such node.
 fn send_to_constant(
     alloc: Global,
     e: &Term,
@@ -200,7 +200,7 @@ fn send_to_constant(
         (term_code e.now sizes loops.now depth Value)) + 1)) }
 {
     if node >= sizes.nodes {
-        return Ok(Vec::new(alloc));
+        return Ok(single(alloc, set_number_of(Reg::R0, 0))?);
     }
     let value = term(alloc, e, sizes, loops, depth, depth, Purpose::Value)?;
     short(passed(alloc, source(e, sizes, loops), node, value)?)
