@@ -35,7 +35,7 @@ use Rattle.rule_syntax.specs.declared.syntax.Statement.TheVariants.{Let', For', 
 use Rattle.rule_nodes.specs.Meaning.{apply_operator}
 use Rattle.rule_nodes.specs.Operands.{is_constant, is_local, is_operand, is_steady, constant_number, depth_behind, fetched_source, term_source, IsSourceWithin}
 use Rattle.rule_nodes.specs.Fits.{Fits, AssignmentFits, BlockFits}
-use Rattle.rule_nodes.specs.Code.{number_place, fetch_code, keep_code, set_number, set_node, copy, mirror, jump_on, jump_by, jump_at, jump_register, alu_op_of, far_of, when_of, beyond_purpose, behind_test, by_value, truth_code, get_code, load_code, operand_code, by_operator, left_code, right_code, beside_code, two_code, binary_code, message_code, message_by, tally_step, tally_codes, tallied_code, tally_code, tally_test, items_code, pass_codes, nearer_end, passes_before, sorted_code, term_code, stored_code, let_code, assign_code, place_code, word_code, set_code, given_code, change_place, changing_insn, one_code, also_code, send_codes, send_code, send_all_code, passed_code, idle_code, send_to_constant_code, receiver_code, send_to_code, each_code, assignment_code, block_code}
+use Rattle.rule_nodes.specs.Code.{number_place, fetch_code, keep_code, set_number, set_node, copy, mirror, jump_on, jump_by, jump_at, jump_register, alu_op_of, far_of, when_of, beyond_purpose, behind_test, by_value, truth_code, get_code, load_code, operand_code, by_operator, left_code, right_code, beside_code, binary_code, message_code, message_by, tally_step, tally_codes, tallied_code, tally_code, tally_test, items_code, pass_codes, nearer_end, passes_before, sorted_code, term_code, stored_code, let_code, assign_code, place_code, word_code, set_code, given_code, change_place, changing_insn, one_code, also_code, send_codes, send_code, send_all_code, passed_code, idle_code, send_to_constant_code, receiver_code, send_to_code, each_code, assignment_code, block_code}
 use Rattle.rule_nodes.specs.Refusals.{IsUnmade}
 use Rattle.rule_nodes.proofs.Sources.{is_found}
 use Rattle.rule_nodes.proofs.TallyLaws.{steps_alike}
@@ -195,11 +195,9 @@ sides_long Computed (FromWord k) o d purpose left right f g =
     let l = left_long o (FromWord k) purpose right in
     (omega arith, omega arith)
 sides_long Computed Computed o d purpose left right f g =
-    let back = copy R1 R0 ∷ fetch_code R0 (number_place d) ∷ [] in
-    let rest = keep_code (number_place d) ∷ (right ++ back) in
-    let l = operator_long o (operand.Reg R1) purpose (two_code d left right) in
-    let e1 = length-append left rest in
-    let e2 = length-append right back in
+    let beside = left_code o (FromLocal d) purpose right in
+    let l = left_long o (FromLocal d) purpose right in
+    let e = length-append left (keep_code (number_place d) ∷ beside) in
     (omega arith, omega arith)
 
 pub message_long : (y : Source) (n : ℕ) (code : List Insn) → (is_found y ≡ true → length code ≡ 1)

@@ -46,7 +46,7 @@ use Rattle.rule_syntax.specs.declared.syntax.Term.TheVariants.{Number, Nodes, Fa
 use Rattle.rule_nodes.specs.Meaning.{NodeState, value, word_at, apply, compare, bit_of, truth, apply_operator, combine, message_from, numbers_of_nodes, in_order, number_at_place}
 use Rattle.rule_nodes.specs.Operands.{is_constant, is_fetched, is_operand, constant_number, depth_behind, fetched_source, term_source}
 use Rattle.rule_nodes.specs.Fits.{HasPlace, Fits}
-use Rattle.rule_nodes.specs.Code.{number_place, fetch_code, keep_code, increment_code, place_operand, load_place, set_number, copy, alu_op_of, cond_of, jump_on, jump_by, jump_at, beyond_purpose, truth_code, by_value, by_test, two_code, get_code, operand_code, load_code, jump_register, by_operator, left_code, right_code, beside_code, binary_code, choice_code, if_code, decides, both_far, both_code, message_code, message_by, mirror, set_node, lower_code, tally_start, tally_step, tally_codes, tallied_code, tally_code, tally_test, items_code, exchange_code, exchange_codes, pass_code, pass_codes, nearer_end, passes_before, sorted_code, term_code}
+use Rattle.rule_nodes.specs.Code.{number_place, fetch_code, keep_code, increment_code, place_operand, load_place, set_number, copy, alu_op_of, cond_of, jump_on, jump_by, jump_at, beyond_purpose, truth_code, by_value, by_test, get_code, operand_code, load_code, jump_register, by_operator, left_code, right_code, beside_code, binary_code, choice_code, if_code, decides, both_far, both_code, message_code, message_by, mirror, set_node, lower_code, tally_start, tally_step, tally_codes, tallied_code, tally_code, tally_test, items_code, exchange_code, exchange_codes, pass_code, pass_codes, nearer_end, passes_before, sorted_code, term_code}
 use Rattle.rule_nodes.proofs.Places.{inside, IsInside, IsPlace, place_is, not_frame, IsIn, At, IsFramed, Placed, fetches, keeps_at, starts_at, put_at}
 use Rattle.rule_nodes.proofs.Sources.{is_found}
 use Rattle.rule_nodes.proofs.TallyLaws.{steps_alike, tally_next, tally_below, tally_none, tally_more, tally_stays, tally_small}
@@ -353,57 +353,58 @@ module _ (program : List Insn) (env : Setting) (last : ℕ) (solid : (k : ℕ) �
       (λ t h. h) end
   by_test_runs (Jump when far) test d b s stands le run = run when far stands le
 
-  -- ---- two numbers
+  -- ---- a number in a place, and what follows
 
-  pub two_runs : (d : ℕ) (left right : List Insn) (s : MachineState) (a b : ℕ) → d < PLACES → IsFramed s
-      → Stands program s.frame.slot (two_code d left right) → s.frame.slot + length (two_code d left right) ≤ last
+  pub kept_runs : (d a more : ℕ) (left back : List Insn) (s : MachineState) (P : MachineState → Type 0) → d < PLACES
+      → IsFramed s → Stands program s.frame.slot (left ++ (keep_code (number_place d) ∷ back))
+      → s.frame.slot + length (left ++ (keep_code (number_place d) ∷ back)) ≤ last
       → (Stands program s.frame.slot left → s.frame.slot + length left ≤ last
       → Gets s (s.frame.slot + length left) (length left) (Has d s a))
-      → ((t : MachineState) → Same d s t → Stands program t.frame.slot right → t.frame.slot + length right ≤ last
-      → Gets t (t.frame.slot + length right) (length right) (Has (d + 1) t b))
-      → Gets s (s.frame.slot + length (two_code d left right)) (length (two_code d left right)) (HasTwo d s a b)
-  two_runs d left right s a b few framed stands le first second =
-      let back = copy R1 R0 ∷ fetch_code R0 (number_place d) ∷ [] in
-      let rest = keep_code (number_place d) ∷ (right ++ back) in
-      let len : length (left ++ rest) ≡ length left + (1 + (length right + 2)) = omega
-      (arith, length-append left rest, length-append right back) in
+      → ((t : MachineState) → InPlace d s a t → a < 2 ^ 32 → Stands program t.frame.slot back
+      → t.frame.slot + length back ≤ last → t.frame.slot ≡ s.frame.slot + length left + 1
+      → Gets t (t.frame.slot + length back + more) (length back) P)
+      → Gets s (s.frame.slot + length (left ++ (keep_code (number_place d) ∷ back)) + more)
+      (length (left ++ (keep_code (number_place d) ∷ back))) P
+  kept_runs d a more left back s P few framed stands le first second =
+      let rest = keep_code (number_place d) ∷ back in
+      let len : length (left ++ rest) ≡ length left + (1 + length back) = omega (arith, length-append left rest) in
       let c = first (stands_front program s.frame.slot left rest stands) (omega (arith, len, le)) in
       let at_rest = here_is c.new _ rest c.slot (stands_back program s.frame.slot left rest stands) in
       let p = keep_runs d a s c.new (length left) few c.run c.fact framed at_rest.0 (omega (arith, len, le, c.slot)) in
       let t = p.new in
-      let at_right = here_is t _ (right ++ back) p.slot at_rest.1 in
-      let g = second t p.fact.same (stands_front program t.frame.slot right back at_right)
-      (omega (arith, len, le, c.slot, p.slot)) in
-      let w = g.new in
-      let at_back = here_is w _ back g.slot (stands_back program t.frame.slot right back at_right) in
-      let kept : At d w a = g.fact.same.places d a (omega arith) p.fact.there in
-      let same2 : Same d s w = same_then d s t w p.fact.same (same_less d t w g.fact.same) in
-      let w1 = put w (w.frame.slot + 1) R1 (Num b) in
-      let w2 = put w1 (w.frame.slot + 1 + 1) R0 (Num a) in
-      let same3 : Same (d + 1) w w1 = same_put (d + 1) w w (w.frame.slot + 1) R1 (Num b) (omega arith)
-      (same_self (d + 1) w) in
-      let e2 : step program env w ≡ Ok (Running w1) = copies program env w (w.frame.slot + 1) R1 R0 b at_back.0
-      refl (solid _ (omega (arith, len, le, c.slot, p.slot, g.slot))) g.fact.r0 g.fact.small refl in
-      let e3 : step program env w1 ≡ Ok (Running w2) = fetches program env (number_place d) w1 (w.frame.slot + 1 + 1) R0 a
-      (inside d) at_back.1.0 refl (solid _ (omega (arith, len, le, c.slot, p.slot, g.slot)))
-      (same3.places d a (omega arith) kept) (same3.framed (same2.framed framed)) c.fact.small refl in
-      let run2 = chain program env s t w (length left + 1) (length right) (length left + 1 + length right) p.run g.run
-      (omega arith) in
-      let run3 = further program env s w w1 _ (length left + 1 + length right + 1) run2 e2 (omega arith) in
-      let run4 = further program env s w1 w2 _ (length (left ++ rest)) run3 e3 (omega (arith, len)) in
+      let g = second t p.fact c.fact.small (here_is t _ back p.slot at_rest.1) (omega (arith, len, le, c.slot, p.slot))
+      (omega (arith, c.slot, p.slot)) in
       record {
-        new = w2;
-        run = run4;
+        new = g.new;
+        run = chain program env s t g.new (length left + 1) (length back) (length (left ++ rest)) p.run g.run
+            (omega (arith, len));
         slot = omega (arith, len, c.slot, p.slot, g.slot);
-        fact = record {
-          same = same_put d s w1 (w.frame.slot + 1 + 1) R0 (Num a) (omega arith)
-              (same_put d s w (w.frame.slot + 1) R1 (Num b) (omega arith) same2);
-          r0 = put_same w1.frame.registers 0 (Num a);
-          r1 = put_other w1.frame.registers 0 (Num a) 1 (λ e. omega arith) ∙ put_same w.frame.registers 1 (Num b);
-          left = c.fact.small;
-          right = g.fact.small;
-        };
+        fact = g.fact;
       }
+
+  -- for a purpose
+  pub kept_reached : (purpose : Purpose) (d a v : ℕ) (left back : List Insn) (s : MachineState) → d < PLACES
+      → IsFramed s → Stands program s.frame.slot (left ++ (keep_code (number_place d) ∷ back))
+      → s.frame.slot + length (left ++ (keep_code (number_place d) ∷ back)) + beyond_purpose purpose ≤ last
+      → (Stands program s.frame.slot left → s.frame.slot + length left ≤ last
+      → Gets s (s.frame.slot + length left) (length left) (Has d s a))
+      → ((t : MachineState) → InPlace d s a t → a < 2 ^ 32 → Stands program t.frame.slot back
+      → t.frame.slot + length back + beyond_purpose purpose ≤ last
+      → Reached purpose (d + 1) t (t.frame.slot + length back) (length back) v)
+      → Reached purpose d s (s.frame.slot + length (left ++ (keep_code (number_place d) ∷ back)))
+      (length (left ++ (keep_code (number_place d) ∷ back))) v
+  kept_reached Value d a v left back s few framed stands le first second =
+      gets s _ _ _ _ (Has d s v) (Has d s v) (omega arith) (omega arith) (λ t k. k)
+      (kept_runs d a 0 left back s (Has d s v) few framed stands (omega (arith, le)) first
+      (λ t is small st l at_t. gets t _ _ _ _ (Has (d + 1) t v) (Has d s v) (omega arith) (omega arith)
+      (λ w k. record { same = same_then d s t w is.same (same_less d t w k.same); r0 = k.r0; small = k.small })
+      (second t is small st (omega (arith, l)))))
+  kept_reached (Jump when far) d a v left back s few framed stands le first second =
+      let rest = keep_code (number_place d) ∷ back in
+      let len : length (left ++ rest) ≡ length left + (1 + length back) = omega (arith, length-append left rest) in
+      kept_runs d a (landing when v far) left back s (Same d s) few framed stands (omega (arith, le)) first
+      (λ t is small st l at_t. gets t _ _ _ _ (Same (d + 1) t) (Same d s) refl (omega arith)
+      (λ w k. same_then d s t w is.same (same_less d t w k)) (second t is small st (omega (arith, le, len, at_t))))
 
   -- ---- choices
 
@@ -928,17 +929,18 @@ module _ (program : List Insn) (env : Setting) (last : ℕ) (solid : (k : ℕ) �
   loaded_runs Computed z d lets a b u left s found is sized few le h stands room first =
       absurd (let no : false ≡ true = found in cc)
 
-  -- the right number is computed into r0, and the left one is found
-  turned_runs : (x : Source) (z : Sizes) (d lets a b : ℕ) (u : NodeState) (right : List Insn) (s : MachineState)
-      → is_found x ≡ true → IsAt z lets u x a → IsSized z env → lets ≤ PLACES → lets ≤ d → Holds env lets u s
-      → Stands program s.frame.slot (right ++ (copy R1 R0 ∷ get_code R0 x ∷ []))
-      → s.frame.slot + length (right ++ (copy R1 R0 ∷ get_code R0 x ∷ [])) ≤ last
+  -- the right number is computed into r0, and goes to r1; then an instruction puts the left one into r0
+  turned_runs : (d a b : ℕ) (right : List Insn) (insn : Insn) (s : MachineState)
+      → Stands program s.frame.slot (right ++ (copy R1 R0 ∷ insn ∷ []))
+      → s.frame.slot + length (right ++ (copy R1 R0 ∷ insn ∷ [])) ≤ last
       → (Stands program s.frame.slot right → s.frame.slot + length right ≤ last
       → Gets s (s.frame.slot + length right) (length right) (Has d s b))
-      → Gets s (s.frame.slot + length (right ++ (copy R1 R0 ∷ get_code R0 x ∷ [])))
-      (length (right ++ (copy R1 R0 ∷ get_code R0 x ∷ []))) (HasPair (operand.Reg R1) d s a b)
-  turned_runs x z d lets a b u right s found is sized few le h stands room first =
-      let back = copy R1 R0 ∷ get_code R0 x ∷ [] in
+      → ((t : MachineState) → Same d s t → insn_at program t.frame.slot ≡ Some insn → t.frame.slot + 1 ≤ last
+      → Fetched R0 t a)
+      → Gets s (s.frame.slot + length (right ++ (copy R1 R0 ∷ insn ∷ [])))
+      (length (right ++ (copy R1 R0 ∷ insn ∷ []))) (HasPair (operand.Reg R1) d s a b)
+  turned_runs d a b right insn s stands room first second =
+      let back = copy R1 R0 ∷ insn ∷ [] in
       let len : length (right ++ back) ≡ length right + 2 = length-append right back in
       let c = first (stands_front program s.frame.slot right back stands) (omega (arith, len, room)) in
       let t = c.new in
@@ -947,8 +949,7 @@ module _ (program : List Insn) (env : Setting) (last : ℕ) (solid : (k : ℕ) �
       let e1 : step program env t ≡ Ok (Running t1) = copies program env t (t.frame.slot + 1) R1 R0 b there.0 refl
       (solid _ (omega (arith, len, room, c.slot))) c.fact.r0 c.fact.small refl in
       let same1 : Same d s t1 = same_put d s t (t.frame.slot + 1) R1 (Num b) (omega arith) c.fact.same in
-      let g = get_steps R0 x z lets a u t1 refl found is sized few (still_holds env lets d u s t1 le h same1) there.1.0
-      (omega (arith, len, room, c.slot)) in
+      let g = second t1 same1 there.1.0 (omega (arith, len, room, c.slot)) in
       let t2 = put t1 (t.frame.slot + 1 + 1) R0 (Num a) in
       let run1 = further program env s t t1 (length right) (length right + 1) c.run e1 (omega arith) in
       let two : HasTwo d s a b t2 = record {
@@ -977,13 +978,40 @@ module _ (program : List Insn) (env : Setting) (last : ℕ) (solid : (k : ℕ) �
   left_runs (Compute op) x purpose z d lets a b u right s found is sized few le h stands room first =
       operator_runs (Compute op) (operand.Reg R1) purpose d a b
       (right ++ (copy R1 R0 ∷ get_code R0 x ∷ [])) s stands room
-      (λ st l. turned_runs x z d lets a b u right s found is sized few le h st l first)
+      (λ st l. turned_runs d a b right (get_code R0 x) s st l first
+      (λ t same here l2. get_steps R0 x z lets a u t refl found is sized few (still_holds env lets d u s t le h same) here
+      l2))
   left_runs (Compare r) x purpose z d lets a b u right s found is sized few le h stands room first =
       let code = left_code (Compare r) x purpose right in
       let same : apply_operator (Compare (mirror r)) b a ≡ apply_operator (Compare r) a b = ap bit_of (mirrored r a b) in
       subst (λ (v : ℕ). Reached purpose d s (s.frame.slot + length code) (length code) v) same
       (operator_runs (Compare (mirror r)) (operand_code x) purpose d b a (right ++ load_code x) s stands room
       (λ st l. loaded_runs x z d lets b a u right s found is sized few le h st l first))
+
+  -- the left number is in place k, and the right one is computed
+  beside_place_runs : (o : Operator) (purpose : Purpose) (k d a b : ℕ) (right : List Insn) (s : MachineState) → k < d
+      → At k s a → a < 2 ^ 32 → IsFramed s → Stands program s.frame.slot (left_code o (FromLocal k) purpose right)
+      → s.frame.slot + length (left_code o (FromLocal k) purpose right) + beyond_purpose purpose ≤ last
+      → (Stands program s.frame.slot right → s.frame.slot + length right ≤ last
+      → Gets s (s.frame.slot + length right) (length right) (Has d s b))
+      → Reached purpose d s (s.frame.slot + length (left_code o (FromLocal k) purpose right))
+      (length (left_code o (FromLocal k) purpose right)) (apply_operator o a b)
+  beside_place_runs (Compute op) purpose k d a b right s lt at_k small framed stands room first =
+      let fetch = fetch_code R0 (number_place k) in
+      operator_runs (Compute op) (operand.Reg R1) purpose d a b (right ++ (copy R1 R0 ∷ fetch ∷ [])) s stands room
+      (λ st l. turned_runs d a b right fetch s st l first
+      (λ t same here l2. record {
+        fetched = fetches program env (number_place k) t (t.frame.slot + 1) R0 a (inside k) here refl (solid _ l2)
+            (same.places k a lt at_k) (same.framed framed) small refl;
+        small = small;
+      }))
+  beside_place_runs (Compare r) purpose k d a b right s lt at_k small framed stands room first =
+      let code = left_code (Compare r) (FromLocal k) purpose right in
+      let p = number_place k in
+      let same : apply_operator (Compare (mirror r)) b a ≡ apply_operator (Compare r) a b = ap bit_of (mirrored r a b) in
+      subst (λ (v : ℕ). Reached purpose d s (s.frame.slot + length code) (length code) v) same
+      (operator_runs (Compare (mirror r)) (place_operand p) purpose d b a (right ++ load_place p) s stands room
+      (λ st l. place_loaded p d b a right s (inside k) (λ t alike. alike.places k a lt at_k) framed small st l first))
 
   right_runs : (o : Operator) (y : Source) (purpose : Purpose) (z : Sizes) (d lets a b : ℕ) (u : NodeState)
       (left : List Insn) (s : MachineState) → is_found y ≡ true → IsAt z lets u y b → IsSized z env → lets ≤ PLACES
@@ -1084,12 +1112,12 @@ module _ (program : List Insn) (env : Setting) (last : ℕ) (solid : (k : ℕ) �
   sides_run Computed Computed o purpose z d deep lets a b u left right s at_y at_x sized few le more free h stands room
       first second =
       let deeper = free refl refl in
-      operator_runs o (operand.Reg R1) purpose d a b (two_code d left right) s stands room
-      (λ st l. gets s _ _ _ _ (HasTwo d s a b) (HasPair (operand.Reg R1) d s a b) refl (omega arith)
-      (λ t k. has_pair d s a b t k)
-      (two_runs d left right s a b deeper.0 h.framed st l first
-      (λ t same st2 l2. gets t _ _ _ _ (Has deep t b) (Has (d + 1) t b) refl (omega arith)
-      (λ w k. has_less (d + 1) deep b t w (omega (arith, deeper.1)) k) (second t same st2 l2))))
+      kept_reached purpose d a (apply_operator o a b) left (left_code o (FromLocal d) purpose right) s deeper.0 h.framed
+      stands room first
+      (λ t is small st l. beside_place_runs o purpose d (d + 1) a b right t (omega arith) is.there small
+      (is.same.framed h.framed) st l
+      (λ st2 l2. gets t _ _ _ _ (Has deep t b) (Has (d + 1) t b) refl (omega arith)
+      (λ w k. has_less (d + 1) deep b t w (omega (arith, deeper.1)) k) (second t is.same st2 l2)))
 
   landing_not : (when : Bool) (v far : ℕ) → landing (not when) v far ≡ landing when (bit_of (not (truth v))) far
   landing_not true v far = ap (λ (b : Bool). hop b far) (sym (truth_of (not (truth v))))

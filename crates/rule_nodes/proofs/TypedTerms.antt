@@ -54,7 +54,7 @@ use Rattle.rule_syntax.specs.declared.syntax.Term.TheVariants.{Number as Numeral
 use Rattle.rule_nodes.specs.Meaning.{apply_operator}
 use Rattle.rule_nodes.specs.Operands.{is_constant, is_operand, constant_number, depth_behind, fetched_source, term_source}
 use Rattle.rule_nodes.specs.Fits.{Fits}
-use Rattle.rule_nodes.specs.Code.{number_place, fetch_code, keep_code, start_code, increment_code, place_operand, load_place, set_number, copy, alu_op_of, cond_of, jump_on, jump_by, jump_at, beyond_purpose, truth_code, by_value, by_test, two_code, get_code, operand_code, load_code, jump_register, by_operator, left_code, right_code, beside_code, binary_code, message_by, mirror, set_node, choice_code, if_code, decides, both_far, both_code, message_code, lower_code, tally_start, tally_step, tally_codes, tallied_code, tally_code, tally_test, items_code, exchange_code, exchange_codes, pass_code, pass_codes, nearer_end, passes_before, sorted_code, term_code}
+use Rattle.rule_nodes.specs.Code.{number_place, fetch_code, keep_code, start_code, increment_code, place_operand, load_place, set_number, copy, alu_op_of, cond_of, jump_on, jump_by, jump_at, beyond_purpose, truth_code, by_value, by_test, get_code, operand_code, load_code, jump_register, by_operator, left_code, right_code, beside_code, binary_code, message_by, mirror, set_node, choice_code, if_code, decides, both_far, both_code, message_code, lower_code, tally_start, tally_step, tally_codes, tallied_code, tally_code, tally_test, items_code, exchange_code, exchange_codes, pass_code, pass_codes, nearer_end, passes_before, sorted_code, term_code}
 use Rattle.rule_nodes.proofs.Places.{IsPlace, place_is, not_frame}
 use Rattle.rule_nodes.proofs.Sources.{is_found}
 use Rattle.rule_nodes.proofs.TallyLaws.{steps_alike}
@@ -471,40 +471,29 @@ module _ (program : List Insn) (shape : Extent) (last : ℕ) (solid : (k : ℕ) 
       (C (valued d) (to + 3)) refl (t false 2 (omega (arith, len, le))) (truth_typed d to (omega (arith, len, le))))
   by_test_typed (Jump when far) d slot test le t = t when far le
 
-  two_typed : (d slot : ℕ) (left right : List Insn) → d < PLACES → slot + length (two_code d left right) ≤ last
+  -- a state with one more place than is known where a term leads
+  exits_less : (purpose : Purpose) (d to : ℕ) (table : Table) → Exits purpose d to table → Exits purpose (d + 1) to table
+  exits_less Value d to table h = covers_less table (valued (d + 1)) (valued d) to (known_less d word Unset Unset) h
+  exits_less (Jump when far) d to table h = (
+    covers_less table (plain (d + 1)) (plain d) to (known_less d Unset Unset Unset) h.0,
+    covers_less table (plain (d + 1)) (plain d) (to + far) (known_less d Unset Unset Unset) h.1,
+  )
+
+  -- a number in place d, and what follows
+  kept_typed : (d slot : ℕ) (left back : List Insn) (A : Table → Type 0) → d < PLACES
+      → slot + length (left ++ (keep_code (number_place d) ∷ back)) ≤ last
       → (slot + length left ≤ last → TermTyped Value d slot left)
-      → ((to : ℕ) → to + length right ≤ last → TermTyped Value (d + 1) to right)
-      → T slot (two_code d left right) (C (plain d) slot) (C (known d word word Unset)
-      (slot + length (two_code d left right)))
-  two_typed d slot left right few le first second =
-      let back = copy R1 R0 ∷ fetch_code R0 (number_place d) ∷ [] in
-      let rest = keep_code (number_place d) ∷ (right ++ back) in
-      let len : length (left ++ rest) ≡ length left + (1 + (length right + 2)) = omega
-      (arith, length-append left rest, length-append right back) in
+      → T (slot + length left + 1) back (C (plain (d + 1)) (slot + length left + 1)) A
+      → T slot (left ++ (keep_code (number_place d) ∷ back)) (C (plain d) slot) A
+  kept_typed d slot left back A few le first second =
+      let rest = keep_code (number_place d) ∷ back in
+      let len : length (left ++ rest) ≡ length left + (1 + length back) = omega (arith, length-append left rest) in
       let p1 = slot + length left in
-      let p2 = p1 + 1 in
-      let p3 = p2 + length right in
-      let p4 = p3 + 1 in
-      let end = slot + length (left ++ rest) in
-      let both = known (d + 1) word word Unset in
       let a = first (omega (arith, len, le)) in
       let b = keep_typed program shape last solid d p1 few (omega (arith, len, le)) in
-      let c = second p2 (omega (arith, len, le)) in
-      let s = second_typed program shape last solid (d + 1) p3 (omega (arith, len, le)) in
-      let f = fetch_typed program shape last solid d (d + 1) word p4 (omega arith) (omega (arith, few)) some_word
-      (omega (arith, len, le)) in
-      let e : p4 + 1 ≡ end = omega (arith, len) in
-      let f1 = typed_at p4 (p4 + 1) end (fetch_code R0 (number_place d) ∷ []) (C (known (d + 1) Unset word Unset) p4) both e f in
-      let f2 = typed_as program shape last solid p4 (fetch_code R0 (number_place d) ∷ []) (C (known (d + 1) Unset word Unset) p4)
-      (C both end) (C (known (d + 1) Unset word Unset) p4) (C (known d word word Unset) end) (λ table h. h)
-      (λ table h. covers_less table both (known d word word Unset) end (known_less d word word Unset) h) f1 in
-      let sf = typed_seq p3 p4 (copy R1 R0 ∷ []) (fetch_code R0 (number_place d) ∷ []) (C (valued (d + 1)) p3)
-      (C (known (d + 1) Unset word Unset) p4) (C (known d word word Unset) end) refl s f2 in
-      let csf = typed_seq p2 p3 right back (C (plain (d + 1)) p2) (C (valued (d + 1)) p3)
-      (C (known d word word Unset) end) refl c sf in
-      let bcsf = typed_seq p1 p2 (keep_code (number_place d) ∷ []) (right ++ back) (C (valued d) p1) (C (plain (d + 1)) p2)
-      (C (known d word word Unset) end) refl b csf in
-      typed_seq slot p1 left rest (C (plain d) slot) (C (valued d) p1) (C (known d word word Unset) end) refl a bcsf
+      typed_seq slot p1 left rest (C (plain d) slot) (C (valued d) p1) A refl a
+      (typed_seq p1 (p1 + 1) (keep_code (number_place d) ∷ []) back (C (valued d) p1) (C (plain (d + 1)) (p1 + 1)) A refl
+      b second)
 
   -- ---- found numbers
 
@@ -898,10 +887,22 @@ module _ (program : List Insn) (shape : Extent) (last : ℕ) (solid : (k : ℕ) 
       (λ l. subst (λ (n : ℕ). TermTyped Value n slot right) e (second slot (omega (arith, e, few)) l))
   sides_typed Computed Computed o purpose d deep lets slot left right at_y at_x below few same free le first second =
       let deeper = free refl refl in
-      operator_typed o Computed purpose d lets slot (two_code d left right) tt below few le
-      (λ l. two_typed d slot left right deeper.0 l first
-      (λ to k. subst (λ (n : ℕ). TermTyped Value n to right) deeper.1
-      (second to (omega (arith, deeper.0, deeper.1)) k)))
+      let beside = left_code o (FromLocal d) purpose right in
+      let whole = left ++ (keep_code (number_place d) ∷ beside) in
+      let len : length whole ≡ length left + (1 + length beside) = omega
+      (arith, length-append left (keep_code (number_place d) ∷ beside)) in
+      let room : slot + length whole + beyond_purpose purpose ≤ last = le in
+      let p = slot + length left + 1 in
+      let end : p + length beside ≡ slot + length whole = omega (arith, len) in
+      let b = left_typed o (FromLocal d) purpose (d + 1) (d + 1) p right refl (omega arith) (omega arith)
+      (omega (arith, deeper.0)) (omega (arith, len, room))
+      (λ k. subst (λ (n : ℕ). TermTyped Value n p right) deeper.1
+      (second p (omega (arith, deeper.0, deeper.1)) k)) in
+      let b1 = typed_as program shape last solid p beside (C (plain (d + 1)) p) (Exits purpose (d + 1) (p + length beside))
+      (C (plain (d + 1)) p) (Exits purpose d (p + length beside)) (λ table h. h)
+      (λ table h. exits_less purpose d (p + length beside) table h) b in
+      let b2 = subst (λ (n : ℕ). T p beside (C (plain (d + 1)) p) (Exits purpose d n)) end b1 in
+      kept_typed d slot left beside (Exits purpose d (slot + length whole)) deeper.0 (omega (arith, room)) first b2
 
   -- ---- choices and conditions of two
 

@@ -48,7 +48,7 @@ use Rattle.rule_syntax.specs.declared.syntax.Statement.TheVariants.{Nothing, The
 use Rattle.rule_nodes.specs.Meaning.{initial_state}
 use Rattle.rule_nodes.specs.Operands.{is_constant, constant_number, is_local, is_operand, is_steady, depth_behind, term_source}
 use Rattle.rule_nodes.specs.Fits.{BlockFits}
-use Rattle.rule_nodes.specs.Code.{number_place, fetch_code, keep_code, start_code, increment_code, load_place, set_number, set_node, get_code, operand_code, load_code, left_code, right_code, beside_code, binary_code, mirror, message_by, copy, truth_code, by_value, by_test, by_operator, two_code, choice_code, if_code, is_nothing, decides, both_far, both_code, jump_on, jump_by, jump_register, message_code, tally_start, tally_step, tally_codes, tallied_code, tally_test, items_code, exchange_code, exchange_codes, pass_code, pass_codes, nearer_end, passes_before, sorted_code, term_code, assign_code, place_code, word_code, set_code, change_place, given_code, alu_op_of, changing_insn, one_code, also_code, assignment_code, stored_code, let_code, send_code, send_codes, send_all_code, passed_code, idle_code, receiver_code, send_to_code, each_code, block_code, tail_code, rule_code}
+use Rattle.rule_nodes.specs.Code.{number_place, fetch_code, keep_code, start_code, increment_code, load_place, set_number, set_node, get_code, operand_code, load_code, left_code, right_code, beside_code, binary_code, mirror, message_by, copy, truth_code, by_value, by_test, by_operator, choice_code, if_code, is_nothing, decides, both_far, both_code, jump_on, jump_by, jump_register, message_code, tally_start, tally_step, tally_codes, tallied_code, tally_test, items_code, exchange_code, exchange_codes, pass_code, pass_codes, nearer_end, passes_before, sorted_code, term_code, assign_code, place_code, word_code, set_code, change_place, given_code, alu_op_of, changing_insn, one_code, also_code, assignment_code, stored_code, let_code, send_code, send_codes, send_all_code, passed_code, idle_code, receiver_code, send_to_code, each_code, block_code, tail_code, rule_code}
 use Rattle.rule_nodes.specs.Ends.{AreSizes, IsRuleEnd}
 use Rattle.rule_nodes.proofs.Forms.{leads_add, once, chain, further}
 use Rattle.rule_nodes.proofs.States.{stands_front, stands_back, Holds, IsSized}
@@ -85,10 +85,6 @@ ones_increment (OnStack off) = (refl, (refl, (refl, tt)))
 ones_place : (p : Place) → Ones (load_place p)
 ones_place (InRegister register) = tt
 ones_place (OnStack off) = (refl, tt)
-
-ones_two : (d : ℕ) (a b : List Insn) → Ones a → Ones b → Ones (two_code d a b)
-ones_two d a b h g =
-    ones_append a _ h (one_keep (number_place d), ones_append b _ g (refl, (one_fetch R0 (number_place d), tt)))
 
 ones_operator : (o : Operator) (src : Operand) (purpose : Purpose) (code : List Insn) → Ones code
     → Ones (by_operator o src purpose code)
@@ -143,7 +139,7 @@ ones_binary Computed (Constant c) o d purpose left right h g = ones_left o (Cons
 ones_binary Computed (FromLocal k) o d purpose left right h g = ones_left o (FromLocal k) purpose right g
 ones_binary Computed (FromWord k) o d purpose left right h g = ones_left o (FromWord k) purpose right g
 ones_binary Computed Computed o d purpose left right h g =
-    ones_operator o (operand.Reg R1) purpose (two_code d left right) (ones_two d left right h g)
+    ones_append left _ h (one_keep (number_place d), ones_left o (FromLocal d) purpose right g)
 
 ones_message : (y : Source) (n : ℕ) (code : List Insn) → Ones code → Ones (message_by y n code)
 ones_message (Constant j) n code h = by (nat_lt j n)

@@ -177,11 +177,6 @@ behind_test (Jump when far) code = code
 abbrev pub by_test : Purpose → (Bool → ℕ → List Insn) → List Insn
 by_test purpose test = behind_test purpose (test (when_of purpose) (far_of purpose))
 
--- the left number into r0 and the right one into r1
-abbrev pub two_code : ℕ → List Insn → List Insn → List Insn
-two_code d left right =
-    left ++ (keep_code (number_place d) ∷ (right ++ copy R1 R0 ∷ fetch_code R0 (number_place d) ∷ []))
-
 -- the instruction that puts a found number into a register
 abbrev pub get_code : regs.Reg → Source → Insn
 get_code dst (Constant v) = set_number dst v
@@ -227,12 +222,14 @@ beside_code (InRegister register) r c purpose left =
     by_test purpose (λ when far. jump_register register (jump_on when r) c far ∷ [])
 beside_code (OnStack off) r c purpose left = right_code (Compare r) (Constant c) purpose left
 
--- by where the right number y and the left number x are found: two constants give a constant
+-- by where the right number y and the left number x are found: two constants give a constant. If both are computed, the
+-- left one is kept in place d, and is found there
 abbrev pub binary_code : Source → Source → Operator → ℕ → Purpose → List Insn → List Insn → List Insn
 binary_code (Constant c) (Constant b) o d purpose left right = by_value purpose (set_number R0
     (apply_operator o b c) ∷ [])
 binary_code (Constant c) (FromLocal k) (Compare r) d purpose left right = beside_code (number_place k) r c purpose left
-binary_code Computed Computed o d purpose left right = by_operator o (Reg R1) purpose (two_code d left right)
+binary_code Computed Computed o d purpose left right =
+    left ++ (keep_code (number_place d) ∷ left_code o (FromLocal d) purpose right)
 binary_code Computed x o d purpose left right = left_code o x purpose right
 binary_code y x o d purpose left right = right_code o y purpose left
 

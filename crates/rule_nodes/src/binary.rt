@@ -10,7 +10,7 @@ use crate::insns::{
 };
 use crate::numbers::{Place, Purpose, Source};
 use crate::operands::{get_of, operand_of, operate_of, source, with_load};
-use crate::parts::{behind_test_of, by_value_of, far_for, joined, single, two_of, when_for};
+use crate::parts::{behind_test_of, by_value_of, far_for, joined, kept_then, single, when_for};
 use bpf_insn::{Insn, MAX_SLOTS, Operand, Reg, Width};
 use rule_syntax::{Comparison, Operator, Sizes, Term};
 use std::alloc::{AllocError, Global};
@@ -94,8 +94,8 @@ fn right_computed(
 {
     match x {
         Source::Computed => {
-            let both = two_of(depth, left, &right)?;
-            by_operator_of(operator, Operand::Reg(Reg::R1), both, purpose)
+            let beside = left_found(operator, Source::FromLocal(depth), right, purpose)?;
+            kept_then(left, depth, &beside)
         }
         Source::Constant(_) => left_found(operator, x, right, purpose),
         Source::FromLocal(_) => left_found(operator, x, right, purpose),

@@ -4,13 +4,12 @@ ghost use Rattle.bpf_insn.specs.declared.forms.Reg.TheVariants.{R0};
 ghost use Rattle.bpf_insn.specs.declared.forms.Insn.TheVariants as i;
 ghost use Rattle.rule_nodes.specs.declared.numbers.Purpose.TheVariants.{Jump};
 ghost use Rattle.rule_nodes.specs.declared.numbers.Source.TheVariants.{Constant};
-ghost use Rattle.rule_nodes.specs.Code.{when_of, far_of, beyond_purpose, behind_test, by_value, two_code, message_code, message_by, decides, both_far};
+ghost use Rattle.rule_nodes.specs.Code.{when_of, far_of, beyond_purpose, number_place, keep_code, behind_test, by_value, message_code, message_by, decides, both_far};
 ghost use Rattle.rule_nodes.specs.Refusals.{IsUnmade};
 
 use crate::errors::CompileError;
 use crate::insns::{
-    copy_of, fetch_of, jump_at_of, jump_on_of, keep_of, place_of, set_node_of, set_number_of,
-    skip_of,
+    copy_of, jump_at_of, jump_on_of, keep_of, place_of, set_node_of, set_number_of, skip_of,
 };
 use crate::numbers::{Purpose, Source};
 use bpf_insn::{Insn, MAX_SLOTS, Reg};
@@ -125,14 +124,12 @@ pub fn behind_test_of(code: Vec<Insn>, purpose: Purpose) -> Result<Vec<Insn>, Al
 
 // ---- two sides
 
-/// Returns the code that puts the left number into r0 and the right one into r1.
-pub fn two_of(depth: u32, left: Vec<Insn>, right: &[Insn]) -> Result<Vec<Insn>, AllocError>
-    ensures { IfOk result (λ c. c.items ≡ two_code depth left.items right.now) }
+/// Returns the code of a number, its copy into the place of a depth, and what follows.
+pub fn kept_then(code: Vec<Insn>, depth: u32, rest: &[Insn]) -> Result<Vec<Insn>, AllocError>
+    ensures { IfOk result (λ c. c.items ≡ code.items ++ (keep_code (number_place depth) ∷ rest.now)) }
 {
-    let place = place_of(depth);
-    let kept = joined(left, &[keep_of(place)])?;
-    let both = joined(kept, right)?;
-    joined(both, &[copy_of(Reg::R1, Reg::R0), fetch_of(Reg::R0, place)])
+    let kept = joined(code, &[keep_of(place_of(depth))])?;
+    joined(kept, rest)
 }
 
 fn decides_of(connective: Connective) -> bool

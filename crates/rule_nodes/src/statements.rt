@@ -6,17 +6,17 @@ ghost use Rattle.bpf_insn.specs.declared.forms.Insn.TheVariants as i;
 ghost use Rattle.rule_syntax.specs.declared.syntax.Statement.TheVariants.{SendAll, SendTo};
 ghost use Rattle.rule_nodes.specs.Operands.{term_source, IsSourceWithin};
 ghost use Rattle.rule_nodes.specs.Fits.{Fits, BlockFits};
-ghost use Rattle.rule_nodes.specs.Code.{number_place, keep_code, set_node, term_code, stored_code, let_code, send_codes, send_all_code, passed_code, send_to_constant_code, receiver_code, send_to_code, is_nothing, block_code};
+ghost use Rattle.rule_nodes.specs.Code.{set_node, term_code, stored_code, let_code, send_codes, send_all_code, passed_code, send_to_constant_code, receiver_code, send_to_code, is_nothing, block_code};
 ghost use Rattle.rule_nodes.specs.Refusals.{IsUnmade};
 
 use crate::assignments::{assignment, placed_of};
 use crate::errors::CompileError;
-use crate::insns::{copy_of, jump_at_of, keep_of, place_of, set_node_of, set_number_of};
+use crate::insns::{copy_of, jump_at_of, place_of, set_node_of, set_number_of};
 use crate::numbers::{PLACES, Purpose, Source};
 use crate::operands::{
     constant_of, depth_behind_of, get_of, is_constant_of, is_operand_of, source,
 };
-use crate::parts::{if_of, if_test, joined, short, single, within};
+use crate::parts::{if_of, if_test, joined, kept_then, short, single, within};
 use crate::terms::term;
 use bpf_insn::{Insn, MAX_SLOTS, Reg};
 use rule_syntax::{Comparison, Sizes, Statement, Term};
@@ -58,14 +58,6 @@ fn receiver_of(source: Source, nodes: u32) -> [Insn; 4]
     ]
 }
 
-/// Returns the code of a number, its copy into a place, and what follows.
-fn stored(code: Vec<Insn>, depth: u32, rest: &[Insn]) -> Result<Vec<Insn>, AllocError>
-    ensures { IfOk result (λ c. c.items ≡ code.items ++ (keep_code (number_place depth) ∷ rest.now)) }
-{
-    let kept = joined(code, &[keep_of(place_of(depth))])?;
-    joined(kept, rest)
-}
-
 /// Returns the code that puts a number, found or computed by the code, into a place, and what follows.
 fn stored_from(
     alloc: Global,
@@ -78,7 +70,7 @@ fn stored_from(
     ensures { IfOk result (λ c. c.items ≡ stored_code source depth code.items rest.now) }
 {
     match source {
-        Source::Computed => stored(code, depth, rest),
+        Source::Computed => kept_then(code, depth, rest),
         Source::Constant(_) => joined(placed_of(alloc, place_of(depth), source)?, rest),
         Source::FromLocal(_) => joined(placed_of(alloc, place_of(depth), source)?, rest),
         Source::FromWord(_) => joined(placed_of(alloc, place_of(depth), source)?, rest),
@@ -149,7 +141,7 @@ fn send_all_of(
     match source {
         Source::Computed => {
             let sends = sends_of(alloc, Source::FromLocal(depth), nodes)?;
-            stored(code, depth, &sends)
+            kept_then(code, depth, &sends)
         }
         Source::Constant(_) => sends_of(alloc, source, nodes),
         Source::FromLocal(_) => sends_of(alloc, source, nodes),
@@ -221,7 +213,7 @@ fn send_to_of(
     match source {
         Source::Computed => {
             let send = joined(receiver, &receiver_of(Source::FromLocal(depth), nodes))?;
-            stored(code, depth, &send)
+            kept_then(code, depth, &send)
         }
         Source::Constant(_) => joined(receiver, &receiver_of(source, nodes)),
         Source::FromLocal(_) => joined(receiver, &receiver_of(source, nodes)),
