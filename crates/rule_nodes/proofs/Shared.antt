@@ -1,13 +1,14 @@
 -- A right side that is computed once for all nodes of a tally.
-use Rattle.std.proofs.Common.{◌≡◌, ℕ, zero, suc, ◌+◌, ◌<◌, ◌==◌, Bool, true, false, not, if◌then◌else◌, ◌&&◌, ◌||◌, List, [], ◌∷◌, ◌++◌, length, slice_index, Result, Ok, Err, IfOk, IfErr, refl, sym, ap, ◌∙◌, arith, subst, append_assoc}
+use Rattle.std.proofs.Common.{◌≡◌, ℕ, zero, suc, ◌+◌, ◌<◌, ◌==◌, Bool, true, false, not, if◌then◌else◌, ◌&&◌, ◌||◌, List, [], ◌∷◌, ◌++◌, ◌-◌, take, length, slice_index, Result, Ok, Err, IfOk, IfErr, refl, sym, ap, ◌∙◌, arith, subst, append_assoc, length-append, Box, Global}
 use Rattle.std.proofs.lemmas.Bool.{eq-eqb, cond-true, cond-false, and_parts}
 use Rattle.node_env.specs.Env.{Setting}
 use Rattle.rule_syntax.specs.declared.syntax.Sizes.{Sizes}
 use Rattle.rule_syntax.specs.declared.syntax.Operator.{Operator}
 use Rattle.rule_syntax.specs.declared.syntax.Operator.TheVariants.{Compute, Compare}
-use Rattle.rule_syntax.specs.declared.syntax.Term.{Term}
+use Rattle.rule_syntax.specs.declared.syntax.Term.{Term, Binary}
 use Rattle.rule_syntax.specs.declared.syntax.Term.TheVariants.{Number, Nodes, Faults, Modulus, Me, Coin, LoopNode, Local, Word, Message', Binary', Logical', Not', Choice', Count', Least', Sorted'}
 use Rattle.bpf_insn.specs.declared.forms.Insn.{Insn}
+use Rattle.bpf_insn.specs.declared.forms.Reg.TheVariants.{R0}
 use Rattle.rule_nodes.specs.declared.errors.CompileError.{CompileError}
 use Rattle.rule_nodes.specs.declared.errors.CompileError.TheVariants.{NoRoom, TooLong, Memory}
 use Rattle.rule_nodes.specs.Refusals.{IsUnfit}
@@ -19,7 +20,7 @@ use Rattle.rule_nodes.specs.declared.numbers.Tally.TheVariants.{HowMany, LeastMe
 use Rattle.rule_nodes.specs.Meaning.{NodeState, value, bit_of, truth, apply_operator, combine, message_from, count_below, least_below, numbers_of_nodes, in_order, number_at_place}
 use Rattle.rule_nodes.specs.Operands.{is_operand, is_free, is_shared, shares_side, depth_behind, term_source}
 use Rattle.rule_nodes.specs.Fits.{SidesFit, Fits, TallyFits}
-use Rattle.rule_nodes.specs.Code.{by_value, binary_code, tally_test, tests_code, shared_code, tally_code, term_code, over_code}
+use Rattle.rule_nodes.specs.Code.{number_place, fetch_code, by_value, binary_code, tally_test, tests_code, shared_code, tallied_code, tally_code, term_code, over_code, let_code}
 
 -- ---- the number of a free term
 
@@ -136,6 +137,64 @@ count_gives whole t t1 p z loops lets d e e1 h =
     subst (λ (x : Term). Fits x z loops lets d) (sym e)
     (count_holds t p z loops lets d (subst (λ (x : Term). TallyFits x z loops lets d) e1 h))
 
+-- how many parts a term has
+abbrev pub term_size : Term → ℕ
+term_size (Number v) = 1
+term_size Nodes = 1
+term_size Faults = 1
+term_size Modulus = 1
+term_size Me = 1
+term_size Coin = 1
+term_size (LoopNode i) = 1
+term_size (Local k) = 1
+term_size (Word k) = 1
+term_size (Message' p a) = term_size a + 1
+term_size (Binary' o p a q b) = term_size a + term_size b + 1
+term_size (Logical' c p a q b) = term_size a + term_size b + 1
+term_size (Not' p a) = term_size a + 1
+term_size (Choice' p t q a r b) = term_size t + term_size a + term_size b + 1
+term_size (Count' p t) = term_size t + 1
+term_size (Least' p t) = term_size t + 1
+term_size (Sorted' p k q e) = term_size k + term_size e + 1
+
+-- the test of a tally is a part of it
+pub count_smaller : (whole t t1 : Term) (p : _) → whole ≡ Count' p t → t1 ≡ t → term_size t1 < term_size whole
+count_smaller whole t t1 p e e1 =
+    subst (λ (x : Term). term_size x < term_size whole) (sym e1)
+    (subst (λ (x : Term). term_size t < term_size x) (sym e) (omega arith))
+
+pub least_smaller : (whole t t1 : Term) (p : _) → whole ≡ Least' p t → t1 ≡ t → term_size t1 < term_size whole
+least_smaller whole t t1 p e e1 =
+    subst (λ (x : Term). term_size x < term_size whole) (sym e1)
+    (subst (λ (x : Term). term_size t < term_size x) (sym e) (omega arith))
+
+-- a test that is no operator between two terms
+unparted_tally : (t : Term) (z : Sizes) (loops lets d : ℕ)
+    → ((o : Operator) (p q : Box Term Global) → t ≡ Binary o p q → ⊥)
+    → TallyFits t z loops lets d ≡ ((d < PLACES) × Fits t z (loops + 1) lets (d + 1))
+unparted_tally (Binary' o p a q b) z loops lets d apart =
+    absurd (apart o (record { ptr = p.ptr; alloc = p.alloc; value = a })
+    (record { ptr = q.ptr; alloc = q.alloc; value = b }) refl)
+unparted_tally t z loops lets d apart = refl
+
+pub unparted_ok : {A : Type 0} (r : Result A CompileError) (t : Term) (z : Sizes) (loops lets d inner : ℕ)
+    → inner ≡ loops + 1 → ((o : Operator) (p q : Box Term Global) → t ≡ Binary o p q → ⊥) → d < PLACES
+    → IfOk r (λ _. Fits t z inner lets (d + 1)) → IfOk r (λ _. TallyFits t z loops lets d)
+unparted_ok (Ok x) t z loops lets d inner e apart small h =
+    subst (λ (P : Type 0). P) (sym (unparted_tally t z loops lets d apart))
+    (small, subst (λ (n : ℕ). Fits t z n lets (d + 1)) e h)
+unparted_ok (Err x) t z loops lets d inner e apart small h = tt
+
+pub unparted_unfit : {A : Type 0} (r : Result A CompileError) (t : Term) (z : Sizes) (loops lets d inner : ℕ)
+    → inner ≡ loops + 1 → ((o : Operator) (p q : Box Term Global) → t ≡ Binary o p q → ⊥)
+    → IfErr r (IsUnfit (Fits t z inner lets (d + 1))) → IfErr r (IsUnfit (TallyFits t z loops lets d))
+unparted_unfit (Ok x) t z loops lets d inner e apart h = tt
+unparted_unfit (Err NoRoom) t z loops lets d inner e apart h =
+    λ f. h (subst (λ (n : ℕ). Fits t z n lets (d + 1)) (sym e)
+    (subst (λ (P : Type 0). P) (unparted_tally t z loops lets d apart) f).1)
+unparted_unfit (Err TooLong) t z loops lets d inner e apart h = h
+unparted_unfit (Err Memory) t z loops lets d inner e apart h = tt
+
 pub count_ok : {A : Type 0} (r : Result A CompileError) (whole t t1 : Term) (p : _) (z : Sizes) (loops lets d : ℕ)
     → whole ≡ Count' p t → t1 ≡ t → IfOk r (λ _. TallyFits t1 z loops lets d) → IfOk r (λ _. Fits whole z loops lets d)
 count_ok (Ok x) whole t t1 p z loops lets d e e1 h = count_gives whole t t1 p z loops lets d e e1 h
@@ -222,3 +281,34 @@ pub least_code : (t : Term) (p : _) (z : Sizes) (J : List ℕ) (d : ℕ) (purpos
     → term_code (Least' p t) z J d purpose ≡ by_value purpose (tally_code LeastMessage d (over_code LeastMessage t z J d))
 least_code (Binary' o q a r b) p z J d purpose = refl
 least_code t p z J d purpose = refl
+
+-- a let of a tally has its code without the last instruction
+taken : (xs ys : List Insn) (n : ℕ) → n ≡ length xs → take n (xs ++ ys) ≡ xs
+taken [] ys n e = subst (λ (m : ℕ). take m ys ≡ []) (sym e) refl
+taken (x ∷ xs) ys zero e = absurd (omega (arith, e))
+taken (x ∷ xs) ys (suc n) e = ap (λ (zs : List Insn). x ∷ zs) (taken xs ys n (omega (arith, e)))
+
+front_of : (code front : List Insn) (last : Insn) → code ≡ front ++ last ∷ [] → take (length code - 1) code ≡ front
+front_of code front last e =
+    ap (λ (c : List Insn). take (length c - 1) c) e
+    ∙ taken front (last ∷ []) (length (front ++ last ∷ []) - 1) (omega (arith, length-append front (last ∷ [])))
+
+pub count_let : (e t : Term) (p : _) (z : Sizes) (J : List ℕ) (d : ℕ) (code first rest : List Insn) → e ≡ Count' p t
+    → code ≡ term_code e z J d Value → first ≡ take (length code - 1) code → first ++ rest ≡ let_code e z J d rest
+count_let e t p z J d code first rest is here cut =
+    let T = tallied_code HowMany d (over_code HowMany t z J d) in
+    let whole : code ≡ T ++ fetch_code R0 (number_place d) ∷ [] =
+    here ∙ (ap (λ (x : Term). term_code x z J d Value) is ∙ count_code t p z J d Value) in
+    let front : first ≡ T = cut ∙ front_of code T (fetch_code R0 (number_place d)) whole in
+    let all : let_code e z J d rest ≡ T ++ rest = ap (λ (x : Term). let_code x z J d rest) is in
+    ap (λ (f : List Insn). f ++ rest) front ∙ sym all
+
+pub least_let : (e t : Term) (p : _) (z : Sizes) (J : List ℕ) (d : ℕ) (code first rest : List Insn) → e ≡ Least' p t
+    → code ≡ term_code e z J d Value → first ≡ take (length code - 1) code → first ++ rest ≡ let_code e z J d rest
+least_let e t p z J d code first rest is here cut =
+    let T = tallied_code LeastMessage d (over_code LeastMessage t z J d) in
+    let whole : code ≡ T ++ fetch_code R0 (number_place d) ∷ [] =
+    here ∙ (ap (λ (x : Term). term_code x z J d Value) is ∙ least_code t p z J d Value) in
+    let front : first ≡ T = cut ∙ front_of code T (fetch_code R0 (number_place d)) whole in
+    let all : let_code e z J d rest ≡ T ++ rest = ap (λ (x : Term). let_code x z J d rest) is in
+    ap (λ (f : List Insn). f ++ rest) front ∙ sym all

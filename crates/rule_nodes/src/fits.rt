@@ -137,7 +137,8 @@ fn term_fits(
             term_fits(a, sizes, loops, lets, depth)?;
             term_fits(b, sizes, loops, lets, depth)
         }
-        Term::Count(c) | Term::Least(c) => tally_fits(c, sizes, loops, lets, depth),
+        Term::Count(c) => tally_fits(c, sizes, loops, lets, depth),
+        Term::Least(c) => tally_fits(c, sizes, loops, lets, depth),
         Term::Sorted(k, e) => {
             needs_constant(k)?;
             term_fits(k, sizes, loops, lets, depth)?;

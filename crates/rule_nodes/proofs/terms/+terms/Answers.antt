@@ -5,7 +5,7 @@ use Rattle.rule_nodes.specs.Code.{term_code, over_code}
 use Rattle.rule_nodes.proofs.Lengths.{error_longer, passed_on, message_part, left_part, right_part, left_within, right_within, count_part, least_part, sorted_part, test_part, tests_part, left_in_tests, plain_part, shared_part, second_part, first_part, inverse_part, otherwise_part, chosen_part, choosing_part, item_part, items_part}
 use Rattle.rule_nodes.proofs.FitsLess.{item_fits}
 use Rattle.rule_nodes.proofs.Loops.{tally_kept, left_kept, shared_made, tally_done, count_made, least_made, items_kept, sorted_made}
-use Rattle.rule_nodes.proofs.Shared.{plain_code}
+use Rattle.rule_nodes.proofs.Shared.{plain_code, count_needs, least_needs, count_smaller, least_smaller}
 use Rattle.rule_nodes.proofs.terms.+terms.Goals.{tally_over-then-shares_side_of+in_ok-tests, tally_over-else-shares_side_of+in_ok-tests-2}
 use Rattle.rule_nodes.proofs.terms.+terms.Goals as goal
 
@@ -79,6 +79,44 @@ term-returns-in_ok-by_value_of-in-Least-clause-long t c =
     let same : length c.in_ok-by_value_of-in-Least.field-0.items ≡ length (term_code c.args.t.now c.args.sizes
     c.args.loops.now c.args.depth c.args.purpose) = ap length total in
     error_longer c.short-in-Least.result _ _ (omega (arith, same)) c.short-in-Least.ensures.long
+
+pub term-tally_over-requires : goal.term-tally_over-requires
+term-tally_over-requires t c = (
+  omega (arith, count_smaller c.args.t.now _ _ _ c.in-Count.is c.deref-in-Count.ensures),
+  (
+    c.requires.some,
+    (
+      c.requires.few,
+      (
+        c.requires.memory,
+        (
+          c.requires.deep,
+          count_needs c.args.t.now _ _ _ c.args.sizes (length c.args.loops.now) c.args.lets c.args.depth c.in-Count.is
+              c.deref-in-Count.ensures c.requires.fits,
+        ),
+      ),
+    ),
+  ),
+)
+
+pub term-tally_over-requires-in-Least : goal.term-tally_over-requires-in-Least
+term-tally_over-requires-in-Least t c = (
+  omega (arith, least_smaller c.args.t.now _ _ _ c.in-Least.is c.deref-in-Least.ensures),
+  (
+    c.requires.some,
+    (
+      c.requires.few,
+      (
+        c.requires.memory,
+        (
+          c.requires.deep,
+          least_needs c.args.t.now _ _ _ c.args.sizes (length c.args.loops.now) c.args.lets c.args.depth c.in-Least.is
+              c.deref-in-Least.ensures c.requires.fits,
+        ),
+      ),
+    ),
+  ),
+)
 
 pub tests_over-returns-in_err-test-clause-long : goal.tests_over-returns-in_err-test-clause-long
 tests_over-returns-in_err-test-clause-long t c =

@@ -3,26 +3,27 @@ use Rattle.bpf_insn.specs.declared.listing.TheConstants.{MAX_SLOTS}
 use Rattle.rule_nodes.specs.declared.numbers.Purpose.TheVariants.{Value}
 use Rattle.rule_nodes.specs.declared.numbers.Source.TheVariants.{FromLocal}
 use Rattle.rule_nodes.specs.Code.{right_code, tests_code, tally_test, items_code, term_code}
+use Rattle.rule_nodes.proofs.Shared.{term_size}
 use Rattle.rule_nodes.proofs.terms.+terms.Given as goal
 
 -- a function that is called with the same term comes behind the one that calls it
 abbrev pub decreases-term : goal.decreases-term
-decreases-term l = 3 * goal.size-term l + 0
+decreases-term l = 3 * term_size l.t.now
 
 abbrev pub decreases-tally_over : goal.decreases-tally_over
-decreases-tally_over l = 3 * goal.size-tally_over l + 2
+decreases-tally_over l = 3 * term_size l.c.now + 2
 
 abbrev pub decreases-tests_over : goal.decreases-tests_over
-decreases-tests_over l = 3 * goal.size-tests_over l + 1
+decreases-tests_over l = 3 * term_size l.c.now + 1
 
 abbrev pub decreases-shared_over : goal.decreases-shared_over
-decreases-shared_over l = 3 * goal.size-shared_over l + 1
+decreases-shared_over l = 3 * term_size l.c.now + 1
 
 abbrev pub decreases-lefts_over : goal.decreases-lefts_over
-decreases-lefts_over l = 3 * goal.size-lefts_over l + 1
+decreases-lefts_over l = 3 * term_size l.a.now + 1
 
 abbrev pub decreases-sorted_at : goal.decreases-sorted_at
-decreases-sorted_at l = 3 * goal.size-sorted_at l + 1
+decreases-sorted_at l = 3 * term_size l.e.now + 1
 
 -- the tests and steps of the nodes so far
 abbrev pub invariant-tests_over-loop-node : goal.invariant-tests_over-loop-node
