@@ -43,7 +43,7 @@ use Rattle.rule_syntax.specs.declared.syntax.Operator.TheVariants.{Compute}
 use Rattle.rule_nodes.specs.Meaning.{NodeState, apply, value, word_at, message_from, truth, with_local, assigned, all_assigned, with_sent, sent_below, each_below, after}
 use Rattle.rule_nodes.specs.Operands.{is_constant, constant_number, is_local, is_operand, is_asked, is_steady, depth_behind, term_source}
 use Rattle.rule_nodes.specs.Fits.{HasPlace, Fits, TargetFits, AssignmentFits, BlockFits}
-use Rattle.rule_nodes.specs.Code.{number_place, fetch_code, keep_code, copy, cond_of, tallied_code, tally_test, term_code, stored_code, passed_code, idle_code, send_to_constant_code, assign_code, place_code, word_code, set_code, given_code, alu_op_of, change_place, changing_insn, one_code, also_code, assignment_code, get_code, send_code, send_codes, send_all_code, receiver_code, send_to_code, each_code, is_nothing, block_code}
+use Rattle.rule_nodes.specs.Code.{number_place, fetch_code, keep_code, copy, cond_of, tallied_code, term_code, over_code, stored_code, passed_code, idle_code, send_to_constant_code, assign_code, place_code, word_code, set_code, given_code, alu_op_of, change_place, changing_insn, one_code, also_code, assignment_code, get_code, send_code, send_codes, send_all_code, receiver_code, send_to_code, each_code, is_nothing, block_code}
 use Rattle.rule_nodes.proofs.Small.{compared, imm_low, apply_small}
 use Rattle.rule_nodes.proofs.Forms.{copies, operates_in, stores_number, stays, once, chain, further}
 use Rattle.rule_nodes.proofs.Words.{word_small, word_stored, word_low, word_length, word_bytes}
@@ -51,7 +51,8 @@ use Rattle.rule_nodes.proofs.Places.{inside, IsInside, IsPlace, place_is, not_fr
 use Rattle.rule_nodes.proofs.States.{stands_front, stands_back, Same, same_self, same_then, same_put, same_placed, alike_same, Holds, still_holds, IsSized}
 use Rattle.rule_nodes.proofs.Sources.{is_found}
 use Rattle.rule_nodes.proofs.TallyLaws.{tally_below, tally_small}
-use Rattle.rule_nodes.proofs.TermRuns.{hop, behind_more, behind_few, IsAt, found_same, source_is, Fetched, get_steps, Has, Gets, gets, here_is, branch_leads, fetch_runs, keep_runs, if_runs, TallyTests, tallied_runs, constant_is, constant_small, term_runs, nodes_few}
+use Rattle.rule_nodes.proofs.Shared.{count_fits, least_fits}
+use Rattle.rule_nodes.proofs.TermRuns.{hop, behind_more, behind_few, IsAt, found_same, source_is, Fetched, get_steps, Has, Gets, gets, here_is, branch_leads, fetch_runs, keep_runs, if_runs, OverRuns, tallied_runs, over_runs, constant_is, constant_small, term_runs, nodes_few}
 
 -- ---- what holds after a write
 
@@ -1215,26 +1216,23 @@ module _ (program : List Insn) (env : Setting) (last : ℕ) (solid : (k : ℕ) �
 
   -- ---- a tally that stays in the next place, and what follows
 
-  tally_let_runs : (tally : Tally) (z : Sizes) (d : ℕ) (test : ℕ → List Insn) (back : List Insn) (holds : ℕ → ℕ)
-      (u end : NodeState) (s : MachineState) → IsSized z env → d < PLACES → Holds env d u s
-      → Stands program s.frame.slot (tallied_code tally d z.nodes test ++ back)
-      → s.frame.slot + length (tallied_code tally d z.nodes test ++ back) ≤ last
-      → TallyTests program env last solid tally d z.nodes test holds s
-      → ((t : MachineState)
-      → Holds env (d + 1) (with_local d (tally_below tally z.nodes holds (message_from z env)) u) t
+  tally_let_runs : (tally : Tally) (z : Sizes) (d v : ℕ) (tests back : List Insn) (u end : NodeState) (s : MachineState)
+      → IsSized z env → d < PLACES → v < 2 ^ 32 → Holds env d u s
+      → Stands program s.frame.slot (tallied_code tally d tests ++ back)
+      → s.frame.slot + length (tallied_code tally d tests ++ back) ≤ last
+      → OverRuns program env last solid tally d tests v s
+      → ((t : MachineState) → Holds env (d + 1) (with_local d v u) t
       → Stands program t.frame.slot back → t.frame.slot + length back ≤ last → Leads t back (Holds env (d + 1) end))
-      → Leads s (tallied_code tally d z.nodes test ++ back) (Holds env d end)
-  tally_let_runs tally z d test back holds u end s sized small h stands room each next =
-      let front = tallied_code tally d z.nodes test in
-      let v = tally_below tally z.nodes holds (message_from z env) in
-      let few = nodes_few program env last solid z sized in
+      → Leads s (tallied_code tally d tests ++ back) (Holds env d end)
+  tally_let_runs tally z d v tests back u end s sized small bits h stands room each next =
+      let front = tallied_code tally d tests in
       let len : length (front ++ back) ≡ length front + length back = length-append front back in
-      let c = tallied_runs program env last solid tally z d test holds s sized small h.framed
+      let c = tallied_runs program env last solid tally d v tests s small h.framed
       (stands_front program s.frame.slot front back stands) (omega (arith, len, room)) each in
       let there = here_is program env last solid c.new _ back c.slot
       (stands_back program s.frame.slot front back stands) in
-      let h1 = holds_there env d v u c.new (tally_small tally z.nodes holds (message_from z env) (omega (arith, few)))
-      c.fact.there (still_holds env d d u s c.new (omega arith) h c.fact.same) in
+      let h1 = holds_there env d v u c.new bits c.fact.there
+      (still_holds env d d u s c.new (omega arith) h c.fact.same) in
       let g = next c.new h1 there (omega (arith, len, room, c.slot)) in
       record {
         new = g.new;
@@ -1272,28 +1270,26 @@ module _ (program : List Insn) (env : Setting) (last : ℕ) (solid : (k : ℕ) �
         fact = g.fact;
       }
   block_runs (Let' (Count' q t) p rest) z J d u s sized nodes few fits h stands room =
-      let test = λ (j : ℕ). term_code t z (J ++ j ∷ []) (d + 1) (tally_test HowMany d) in
       let holds = λ (j : ℕ). value t z env (J ++ j ∷ []) u in
-      let u1 = with_local d (tally_below HowMany z.nodes holds (message_from z env)) u in
-      tally_let_runs HowMany z d test (block_code rest z J (d + 1)) holds u (after rest z env (d + 1) J u1) s sized fits.0
+      let v = tally_below HowMany z.nodes holds (message_from z env) in
+      let u1 = with_local d v u in
+      tally_let_runs HowMany z d v (over_code HowMany t z J d) (block_code rest z J (d + 1)) u (after rest z env (d + 1) J u1) s
+      sized fits.0
+      (tally_small HowMany z.nodes holds (message_from z env) (omega (arith, nodes_few program env last solid z sized)))
       h stands room
-      (λ j w lt same st l.
-      let more : length J + 1 ≡ length (J ++ j ∷ []) = omega (arith, length-append J (j ∷ [])) in
-      term_runs program env last solid t z (J ++ j ∷ []) (d + 1) d (tally_test HowMany d) u w sized
-      (All-push (λ i. i < z.nodes) J j nodes lt) few (omega arith)
-      (subst (λ (n : ℕ). Fits t z n d (d + 1)) more fits.1.1) (still_holds env d d u s w (omega arith) h same) st l)
+      (over_runs program env last solid HowMany t z J d d u s sized nodes few (omega arith)
+      (count_fits t q z (length J) d d fits.1) h)
       (λ t2 h2 st l. block_runs rest z J (d + 1) u1 t2 sized nodes (omega (arith, fits.0)) fits.2 h2 st l)
   block_runs (Let' (Least' q t) p rest) z J d u s sized nodes few fits h stands room =
-      let test = λ (j : ℕ). term_code t z (J ++ j ∷ []) (d + 1) (tally_test LeastMessage d) in
       let holds = λ (j : ℕ). value t z env (J ++ j ∷ []) u in
-      let u1 = with_local d (tally_below LeastMessage z.nodes holds (message_from z env)) u in
-      tally_let_runs LeastMessage z d test (block_code rest z J (d + 1)) holds u (after rest z env (d + 1) J u1) s sized fits.0
+      let v = tally_below LeastMessage z.nodes holds (message_from z env) in
+      let u1 = with_local d v u in
+      tally_let_runs LeastMessage z d v (over_code LeastMessage t z J d) (block_code rest z J (d + 1)) u (after rest z env (d + 1) J u1) s
+      sized fits.0
+      (tally_small LeastMessage z.nodes holds (message_from z env) (omega (arith, nodes_few program env last solid z sized)))
       h stands room
-      (λ j w lt same st l.
-      let more : length J + 1 ≡ length (J ++ j ∷ []) = omega (arith, length-append J (j ∷ [])) in
-      term_runs program env last solid t z (J ++ j ∷ []) (d + 1) d (tally_test LeastMessage d) u w sized
-      (All-push (λ i. i < z.nodes) J j nodes lt) few (omega arith)
-      (subst (λ (n : ℕ). Fits t z n d (d + 1)) more fits.1.1) (still_holds env d d u s w (omega arith) h same) st l)
+      (over_runs program env last solid LeastMessage t z J d d u s sized nodes few (omega arith)
+      (least_fits t q z (length J) d d fits.1) h)
       (λ t2 h2 st l. block_runs rest z J (d + 1) u1 t2 sized nodes (omega (arith, fits.0)) fits.2 h2 st l)
   block_runs (Let' e p rest) z J d u s sized nodes few fits h stands room =
       let u1 = with_local d (value e z env J u) u in

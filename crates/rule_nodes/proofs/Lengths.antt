@@ -1,5 +1,5 @@
 -- The code of a part is no longer than that of the whole, so a part that is too long makes the whole too long.
-use Rattle.std.proofs.Common.{◌≡◌, ℕ, zero, suc, ◌+◌, ◌<◌, ◌≤◌, Bool, true, false, if◌then◌else◌, ◌||◌, ◌&&◌, ◌⊎◌, nat_lt, Option, Some, None, List, [], ◌∷◌, ◌++◌, length, Result, Ok, Err, IfErr, IsErrAnd, pos, refl, sym, ap, ◌∙◌, arith, subst, inl, inr, length-append}
+use Rattle.std.proofs.Common.{◌≡◌, ℕ, zero, suc, ◌+◌, ◌<◌, ◌≤◌, Bool, true, false, not, if◌then◌else◌, ◌||◌, ◌&&◌, ◌⊎◌, nat_lt, Option, Some, None, List, [], ◌∷◌, ◌++◌, length, Result, Ok, Err, IfErr, IsErrAnd, pos, refl, sym, ap, ◌∙◌, arith, subst, inl, inr, length-append}
 use Rattle.std.proofs.lemmas.Option.{none-some}
 use Rattle.std.proofs.lemmas.Bool.{cases_Bool, cases_lt, cond-true, cond-false, and_parts, lt-ltb}
 use Rattle.bpf_insn.specs.declared.forms.Width.TheVariants.{W32}
@@ -16,6 +16,7 @@ use Rattle.rule_syntax.specs.declared.syntax.Comparison.TheVariants.{NotEqual}
 use Rattle.rule_syntax.specs.declared.syntax.Operation.{Operation}
 use Rattle.rule_syntax.specs.declared.syntax.Operator.{Operator}
 use Rattle.rule_syntax.specs.declared.syntax.Operator.TheVariants.{Compute, Compare}
+use Rattle.rule_syntax.specs.declared.syntax.Connective.{Connective}
 use Rattle.rule_nodes.specs.declared.numbers.Place.{Place}
 use Rattle.rule_nodes.specs.declared.numbers.Place.TheVariants.{InRegister, OnStack}
 use Rattle.rule_nodes.specs.declared.numbers.Purpose.{Purpose}
@@ -27,18 +28,19 @@ use Rattle.rule_nodes.specs.declared.numbers.Tally.TheVariants.{HowMany, LeastMe
 use Rattle.rule_nodes.specs.declared.numbers.Source.{Source}
 use Rattle.rule_nodes.specs.declared.numbers.Source.TheVariants.{Constant, FromLocal, FromWord, Computed}
 use Rattle.rule_syntax.specs.declared.syntax.Term.{Term}
-use Rattle.rule_syntax.specs.declared.syntax.Term.TheVariants.{Number, Nodes, Faults, Modulus, LoopNode, Local, Word, Message', Binary', Count', Least', Sorted'}
+use Rattle.rule_syntax.specs.declared.syntax.Term.TheVariants.{Number, Nodes, Faults, Modulus, LoopNode, Local, Word, Message', Binary', Logical', Not', Choice', Count', Least', Sorted'}
 use Rattle.rule_syntax.specs.declared.syntax.Assignment.{Assignment}
 use Rattle.rule_syntax.specs.declared.syntax.Assignment.TheVariants.{One, Also'}
 use Rattle.rule_syntax.specs.declared.syntax.Statement.{Statement}
 use Rattle.rule_syntax.specs.declared.syntax.Statement.TheVariants.{Let', For', SendAll, SendTo}
 use Rattle.rule_nodes.specs.Meaning.{apply_operator}
-use Rattle.rule_nodes.specs.Operands.{is_constant, is_local, is_operand, is_steady, constant_number, depth_behind, fetched_source, term_source, IsSourceWithin}
+use Rattle.rule_nodes.specs.Operands.{is_constant, is_local, is_operand, is_steady, is_shared, shares_side, constant_number, depth_behind, fetched_source, term_source, IsSourceWithin}
 use Rattle.rule_nodes.specs.Fits.{Fits, AssignmentFits, BlockFits}
-use Rattle.rule_nodes.specs.Code.{number_place, fetch_code, keep_code, set_number, set_node, copy, mirror, jump_on, jump_by, jump_at, jump_register, alu_op_of, far_of, when_of, beyond_purpose, behind_test, by_value, truth_code, get_code, load_code, operand_code, by_operator, left_code, right_code, beside_code, binary_code, message_code, message_by, tally_step, tally_codes, tallied_code, tally_code, tally_test, items_code, pass_codes, nearer_end, passes_before, sorted_code, term_code, stored_code, let_code, assign_code, place_code, word_code, set_code, given_code, change_place, changing_insn, one_code, also_code, send_codes, send_code, send_all_code, passed_code, idle_code, send_to_constant_code, receiver_code, send_to_code, each_code, assignment_code, block_code}
+use Rattle.rule_nodes.specs.Code.{number_place, fetch_code, keep_code, set_number, set_node, copy, mirror, jump_on, jump_by, jump_at, jump_register, alu_op_of, far_of, when_of, beyond_purpose, behind_test, by_value, truth_code, get_code, load_code, operand_code, by_operator, left_code, right_code, beside_code, binary_code, choice_code, decides, both_far, message_code, message_by, tally_step, tally_codes, tests_code, tallied_code, tally_code, tally_test, shared_code, items_code, pass_codes, nearer_end, passes_before, sorted_code, term_code, over_code, stored_code, let_code, assign_code, place_code, word_code, set_code, given_code, change_place, changing_insn, one_code, also_code, send_codes, send_code, send_all_code, passed_code, idle_code, send_to_constant_code, receiver_code, send_to_code, each_code, assignment_code, block_code}
 use Rattle.rule_nodes.specs.Refusals.{IsUnmade}
 use Rattle.rule_nodes.proofs.Sources.{is_found}
 use Rattle.rule_nodes.proofs.TallyLaws.{steps_alike}
+use Rattle.rule_nodes.proofs.Shared.{count_code, least_code, plain_code, sides_shared}
 
 -- ---- errors
 
@@ -241,9 +243,9 @@ pub test_in_tally : (step test : ℕ → List Insn) (n m : ℕ) → m < n
 test_in_tally step test n m lt =
     omega (arith, one_tally step test m, tallies_long step test n (suc m) (omega (arith, lt)))
 
-pub tally_long : (tally : Tally) (d n : ℕ) (test : ℕ → List Insn) → length (tally_code tally d n test)
-    ≡ length (tally_codes (tally_step tally (number_place d)) test n) + 2
-tally_long tally d n test = omega (arith, length-append (tallied_code tally d n test) (fetch_code R0 (number_place d) ∷ []))
+pub tally_long : (tally : Tally) (d : ℕ) (tests : List Insn) → length (tally_code tally d tests) ≡ length tests + 2
+tally_long tally d tests =
+    omega (arith, length-append (tallied_code tally d tests) (fetch_code R0 (number_place d) ∷ []))
 
 one_item : (d : ℕ) (item : ℕ → List Insn) (m : ℕ)
     → length (items_code d item (suc m)) ≡ length (items_code d item m) + (length (item m) + 1)
@@ -394,52 +396,168 @@ right_within whole a b b1 p q o z J lets d e e1 few fits =
 
 pub count_part : (whole t t1 : Term) (p : _) (z : Sizes) (J : List ℕ) (d : ℕ) (purpose : Purpose) → whole ≡ Count' p t
     → t1 ≡ t
-    → length (tally_code HowMany d z.nodes (λ j. term_code t1 z (J ++ j ∷ []) (d + 1) (tally_test HowMany d)))
-    ≤ length (term_code whole z J d purpose) + beyond_purpose purpose
+    → length (tally_code HowMany d (over_code HowMany t1 z J d)) ≤ length (term_code whole z J d purpose) + beyond_purpose purpose
 count_part whole t t1 p z J d purpose e e1 =
-    let code = λ (x : Term). tally_code HowMany d z.nodes
-    (λ j. term_code x z (J ++ j ∷ []) (d + 1) (tally_test HowMany d)) in
+    let code = λ (x : Term). tally_code HowMany d (over_code HowMany x z J d) in
     let l : length (code t) ≤ length (by_value purpose (code t)) = value_long purpose (code t) in
     let same : length (code t1) ≡ length (code t) = ap (λ (x : Term). length (code x)) e1 in
     let made : length (term_code whole z J d purpose) ≡ length (by_value purpose (code t)) =
-    ap (λ (x : Term). length (term_code x z J d purpose)) e in
+    ap (λ (x : Term). length (term_code x z J d purpose)) e ∙ ap length (count_code t p z J d purpose) in
     omega (arith, l, same, made)
 
 pub least_part : (whole t t1 : Term) (p : _) (z : Sizes) (J : List ℕ) (d : ℕ) (purpose : Purpose) → whole ≡ Least' p t
     → t1 ≡ t
-    → length (tally_code LeastMessage d z.nodes (λ j. term_code t1 z (J ++ j ∷ []) (d + 1) (tally_test LeastMessage d)))
-    ≤ length (term_code whole z J d purpose) + beyond_purpose purpose
+    → length (tally_code LeastMessage d (over_code LeastMessage t1 z J d)) ≤ length (term_code whole z J d purpose) + beyond_purpose purpose
 least_part whole t t1 p z J d purpose e e1 =
-    let code = λ (x : Term). tally_code LeastMessage d z.nodes
-    (λ j. term_code x z (J ++ j ∷ []) (d + 1) (tally_test LeastMessage d)) in
+    let code = λ (x : Term). tally_code LeastMessage d (over_code LeastMessage x z J d) in
     let l : length (code t) ≤ length (by_value purpose (code t)) = value_long purpose (code t) in
     let same : length (code t1) ≡ length (code t) = ap (λ (x : Term). length (code x)) e1 in
     let made : length (term_code whole z J d purpose) ≡ length (by_value purpose (code t)) =
-    ap (λ (x : Term). length (term_code x z J d purpose)) e in
+    ap (λ (x : Term). length (term_code x z J d purpose)) e ∙ ap length (least_code t p z J d purpose) in
     omega (arith, l, same, made)
 
+-- the tests of a term at each node
 pub test_part : (tally : Tally) (t t1 : Term) (z : Sizes) (J J1 J2 : List ℕ) (d n : ℕ) (skip : Purpose)
     → skip ≡ tally_test tally d → t1 ≡ t → J1 ≡ J ++ n ∷ [] → J2 ≡ J1 → n < z.nodes
     → length (term_code t1 z J2 (d + 1) skip) + beyond_purpose skip
-    ≤ length (tally_code tally d z.nodes (λ j. term_code t z (J ++ j ∷ []) (d + 1) (tally_test tally d)))
+    ≤ length (tests_code tally d z.nodes (λ j. term_code t z (J ++ j ∷ []) (d + 1) (tally_test tally d)))
 test_part tally t t1 z J J1 J2 d n skip e0 e1 e2 e3 lt =
     let step = tally_step tally (number_place d) in
     let test = λ (j : ℕ). term_code t z (J ++ j ∷ []) (d + 1) (tally_test tally d) in
-    let l1 = tally_long tally d z.nodes test in
     let l2 = test_in_tally step test z.nodes n lt in
     let l3 = steps_alike tally (number_place d) n in
-    rw (e0, e1, e3, e2) (omega (arith, l1, l2, l3))
+    rw (e0, e1, e3, e2) (omega (arith, l2, l3))
 
-pub tests_part : (tally : Tally) (t : Term) (z : Sizes) (J : List ℕ) (d n : ℕ) (new : List Insn) → n + 1 ≤ z.nodes
-    → new ≡ tally_codes (tally_step tally (number_place d))
-    (λ j. term_code t z (J ++ j ∷ []) (d + 1) (tally_test tally d)) (n + 1)
-    → length new ≤ length (tally_code tally d z.nodes (λ j. term_code t z (J ++ j ∷ []) (d + 1) (tally_test tally d)))
-tests_part tally t z J d n new le e1 =
+pub tests_part : (tally : Tally) (z : Sizes) (d n : ℕ) (test : ℕ → List Insn) (new : List Insn) → n + 1 ≤ z.nodes
+    → new ≡ tests_code tally d (n + 1) test → length new ≤ length (tests_code tally d z.nodes test)
+tests_part tally z d n test new le e1 =
+    let l2 = tallies_long (tally_step tally (number_place d)) test z.nodes (n + 1) le in
+    rw e1 (omega (arith, l2))
+
+-- the left side of a shared comparison at each node
+pub left_in_tests : (tally : Tally) (o : Operator) (a : Term) (z : Sizes) (J J1 J2 : List ℕ) (d n : ℕ)
+    → J1 ≡ J ++ n ∷ [] → J2 ≡ J1 → n < z.nodes
+    → length (term_code a z J2 (d + 2) Value) + 0
+    ≤ length (tests_code tally d z.nodes
+    (λ j. right_code o (FromLocal (d + 1)) (tally_test tally d) (term_code a z (J ++ j ∷ []) (d + 2) Value)))
+left_in_tests tally o a z J J1 J2 d n e2 e3 lt =
     let step = tally_step tally (number_place d) in
-    let test = λ (j : ℕ). term_code t z (J ++ j ∷ []) (d + 1) (tally_test tally d) in
-    let l1 = tally_long tally d z.nodes test in
-    let l2 = tallies_long step test z.nodes (n + 1) le in
-    rw e1 (omega (arith, l1, l2))
+    let left = λ (j : ℕ). term_code a z (J ++ j ∷ []) (d + 2) Value in
+    let test = λ (j : ℕ). right_code o (FromLocal (d + 1)) (tally_test tally d) (left j) in
+    let l1 = right_long o (FromLocal (d + 1)) (tally_test tally d) (left n) in
+    let l2 = test_in_tally step test z.nodes n lt in
+    let l3 = steps_alike tally (number_place d) n in
+    rw (e3, e2) (omega (arith, l1, l2, l3))
+
+pub shared_long : (tally : Tally) (d n : ℕ) (o : Operator) (right : List Insn) (left : ℕ → List Insn)
+    → (length right + 0 ≤ length (shared_code tally d n o right left))
+    × (length (tests_code tally d n (λ j. right_code o (FromLocal (d + 1)) (tally_test tally d) (left j)))
+    ≤ length (shared_code tally d n o right left))
+shared_long tally d n o right left =
+    let tests = tests_code tally d n (λ j. right_code o (FromLocal (d + 1)) (tally_test tally d) (left j)) in
+    let l = length-append right (keep_code (number_place (d + 1)) ∷ tests) in
+    (omega arith, omega arith)
+
+pub plain_part : (tally : Tally) (t : Term) (z : Sizes) (J : List ℕ) (d : ℕ) → shares_side t (length J) ≡ false
+    → length (tests_code tally d z.nodes (λ j. term_code t z (J ++ j ∷ []) (d + 1) (tally_test tally d)))
+    ≤ length (tally_code tally d (over_code tally t z J d))
+plain_part tally t z J d e =
+    let l = tally_long tally d (over_code tally t z J d) in
+    let same = ap length (plain_code tally t z J d e) in
+    omega (arith, l, same)
+
+pub shared_part : (tally : Tally) (whole a a1 b : Term) (o : Operator) (p q : _) (z : Sizes) (J : List ℕ) (d : ℕ)
+    → whole ≡ Binary' o p a q b → a1 ≡ a → shares_side whole (length J) ≡ true
+    → length (tests_code tally d z.nodes
+    (λ j. right_code o (FromLocal (d + 1)) (tally_test tally d) (term_code a1 z (J ++ j ∷ []) (d + 2) Value)))
+    ≤ length (over_code tally whole z J d)
+shared_part tally whole a a1 b o p q z J d e e1 shared =
+    let is : is_shared o a b (length J) ≡ true = subst (λ (x : Term). shares_side x (length J) ≡ true) e shared in
+    let right = term_code b z (J ++ 0 ∷ []) (d + 1) Value in
+    let left = λ (j : ℕ). term_code a z (J ++ j ∷ []) (d + 2) Value in
+    let made : length (over_code tally whole z J d) ≡ length (shared_code tally d z.nodes o right left) =
+    ap (λ (x : Term). length (over_code tally x z J d)) e ∙ ap length (sides_shared tally o a b p q z J d is) in
+    let l = shared_long tally d z.nodes o right left in
+    let same : length (tests_code tally d z.nodes
+    (λ j. right_code o (FromLocal (d + 1)) (tally_test tally d) (term_code a1 z (J ++ j ∷ []) (d + 2) Value)))
+    ≡ length (tests_code tally d z.nodes (λ j. right_code o (FromLocal (d + 1)) (tally_test tally d) (left j))) =
+    ap (λ (x : Term). length (tests_code tally d z.nodes
+    (λ j. right_code o (FromLocal (d + 1)) (tally_test tally d) (term_code x z (J ++ j ∷ []) (d + 2) Value)))) e1 in
+    omega (arith, l.1, made, same)
+
+-- ---- the parts of conditions, inversions and choices
+
+far_within : (alone when : Bool) (n far : ℕ) → both_far alone when n far ≤ n + far
+far_within true true n far = omega arith
+far_within true false n far = omega arith
+far_within false true n far = omega arith
+far_within false false n far = omega arith
+
+pub second_part : (whole a b b1 : Term) (k : Connective) (p q : _) (z : Sizes) (J : List ℕ) (d : ℕ)
+    (purpose skip : Purpose) → whole ≡ Logical' k p a q b → b1 ≡ b → skip ≡ Jump (when_of purpose) (far_of purpose)
+    → length (term_code b1 z J d skip) + beyond_purpose skip ≤ length (term_code whole z J d purpose) + beyond_purpose purpose
+second_part whole a b b1 k p q z J d purpose skip e e1 e2 =
+    let right = term_code b z J d (Jump (when_of purpose) (far_of purpose)) in
+    let left = term_code a z J d (Jump (decides k) (both_far (decides k) (when_of purpose) (length right) (far_of purpose))) in
+    let l1 = test_long purpose (left ++ right) in
+    let l2 = length-append left right in
+    rw (e, e1, e2) (omega (arith, l1, l2))
+
+pub first_part : (whole a a1 b b1 : Term) (k : Connective) (p q : _) (z : Sizes) (J : List ℕ) (d : ℕ)
+    (purpose skip test : Purpose) (right : List Insn) → whole ≡ Logical' k p a q b → a1 ≡ a → b1 ≡ b
+    → skip ≡ Jump (when_of purpose) (far_of purpose) → right ≡ term_code b1 z J d skip
+    → test ≡ Jump (decides k) (both_far (decides k) (when_of purpose) (length right) (far_of purpose))
+    → length (term_code a1 z J d test) + beyond_purpose test ≤ length (term_code whole z J d purpose) + beyond_purpose purpose
+first_part whole a a1 b b1 k p q z J d purpose skip test right e e1 e2 e3 e4 e5 =
+    let second = term_code b z J d (Jump (when_of purpose) (far_of purpose)) in
+    let far = both_far (decides k) (when_of purpose) (length second) (far_of purpose) in
+    let left = term_code a z J d (Jump (decides k) far) in
+    let l1 = test_long purpose (left ++ second) in
+    let l2 = length-append left second in
+    let l3 = far_within (decides k) (when_of purpose) (length second) (far_of purpose) in
+    rw (e5, e4, e, e1, e2, e3) (omega (arith, l1, l2, l3))
+
+pub inverse_part : (whole a a1 : Term) (p : _) (z : Sizes) (J : List ℕ) (d : ℕ) (purpose skip : Purpose)
+    → whole ≡ Not' p a → a1 ≡ a → skip ≡ Jump (not (when_of purpose)) (far_of purpose)
+    → length (term_code a1 z J d skip) + beyond_purpose skip ≤ length (term_code whole z J d purpose) + beyond_purpose purpose
+inverse_part whole a a1 p z J d purpose skip e e1 e2 =
+    let l = test_long purpose (term_code a z J d (Jump (not (when_of purpose)) (far_of purpose))) in
+    rw (e, e1, e2) (omega (arith, l))
+
+choice_long : (purpose : Purpose) (test : ℕ → List Insn) (a b : List Insn)
+    → length (test (length a + 1)) + (length a + 1) + length b
+    ≤ length (by_value purpose (choice_code test a b)) + beyond_purpose purpose
+choice_long purpose test a b =
+    let skip = i.Ja (pos (length b)) ∷ b in
+    let l1 = value_long purpose (choice_code test a b) in
+    let l2 = length-append (test (length a + 1)) (a ++ skip) in
+    let l3 = length-append a skip in
+    omega arith
+
+pub otherwise_part : (whole t a b b1 : Term) (p q r : _) (z : Sizes) (J : List ℕ) (d : ℕ) (purpose : Purpose)
+    → whole ≡ Choice' p t q a r b → b1 ≡ b
+    → length (term_code b1 z J d Value) + 0 ≤ length (term_code whole z J d purpose) + beyond_purpose purpose
+otherwise_part whole t a b b1 p q r z J d purpose e e1 =
+    let l = choice_long purpose (λ far. term_code t z J d (Jump false far)) (term_code a z J d Value)
+    (term_code b z J d Value) in
+    rw (e, e1) (omega (arith, l))
+
+pub chosen_part : (whole t a a1 b : Term) (p q r : _) (z : Sizes) (J : List ℕ) (d : ℕ) (purpose : Purpose)
+    → whole ≡ Choice' p t q a r b → a1 ≡ a
+    → length (term_code a1 z J d Value) + 0 ≤ length (term_code whole z J d purpose) + beyond_purpose purpose
+chosen_part whole t a a1 b p q r z J d purpose e e1 =
+    let l = choice_long purpose (λ far. term_code t z J d (Jump false far)) (term_code a z J d Value)
+    (term_code b z J d Value) in
+    rw (e, e1) (omega (arith, l))
+
+pub choosing_part : (whole t t1 a a1 b : Term) (p q r : _) (z : Sizes) (J : List ℕ) (d : ℕ) (purpose skip : Purpose)
+    (first : List Insn) → whole ≡ Choice' p t q a r b → t1 ≡ t → a1 ≡ a → first ≡ term_code a1 z J d Value
+    → skip ≡ Jump false (length first + 1)
+    → length (term_code t1 z J d skip) + beyond_purpose skip ≤ length (term_code whole z J d purpose) + beyond_purpose purpose
+choosing_part whole t t1 a a1 b p q r z J d purpose skip first e e1 e2 e3 e4 =
+    let l = choice_long purpose (λ far. term_code t z J d (Jump false far)) (term_code a z J d Value)
+    (term_code b z J d Value) in
+    rw (e4, e3, e, e1, e2) (omega (arith, l))
 
 pub sorted_part : (whole k k1 e e1 : Term) (p q : _) (z : Sizes) (J : List ℕ) (d place : ℕ) (purpose : Purpose)
     → whole ≡ Sorted' p k q e → place ≡ constant_number k1 z J → k1 ≡ k → e1 ≡ e
@@ -549,21 +667,25 @@ stored_long Computed d code rest f =
     let l = length-append code (keep_code (number_place d) ∷ rest) in
     (omega arith, omega arith)
 
-tallied_long : (tally : Tally) (d n : ℕ) (test : ℕ → List Insn) (rest : List Insn)
-    → (length (tally_code tally d n test) ≤ length (tallied_code tally d n test ++ rest) + 1)
-    × (length rest ≤ length (tallied_code tally d n test ++ rest))
-tallied_long tally d n test rest =
-    let l1 = length-append (tallied_code tally d n test) (fetch_code R0 (number_place d) ∷ []) in
-    let l2 = length-append (tallied_code tally d n test) rest in
+tallied_long : (tally : Tally) (d : ℕ) (tests rest : List Insn)
+    → (length (tally_code tally d tests) ≤ length (tallied_code tally d tests ++ rest) + 1)
+    × (length rest ≤ length (tallied_code tally d tests ++ rest))
+tallied_long tally d tests rest =
+    let l1 = length-append (tallied_code tally d tests) (fetch_code R0 (number_place d) ∷ []) in
+    let l2 = length-append (tallied_code tally d tests) rest in
     (omega arith, omega arith)
 
 let_long : (e : Term) (z : Sizes) (J : List ℕ) (d : ℕ) (rest : List Insn)
     → (length (term_code e z J d Value) ≤ length (let_code e z J d rest) + 1)
     × (length rest ≤ length (let_code e z J d rest))
 let_long (Count' p t) z J d rest =
-    tallied_long HowMany d z.nodes (λ j. term_code t z (J ++ j ∷ []) (d + 1) (tally_test HowMany d)) rest
+    let l = tallied_long HowMany d (over_code HowMany t z J d) rest in
+    let e = ap length (count_code t p z J d Value) in
+    (omega (arith, l.0), l.1)
 let_long (Least' p t) z J d rest =
-    tallied_long LeastMessage d z.nodes (λ j. term_code t z (J ++ j ∷ []) (d + 1) (tally_test LeastMessage d)) rest
+    let l = tallied_long LeastMessage d (over_code LeastMessage t z J d) rest in
+    let e = ap length (least_code t p z J d Value) in
+    (omega (arith, l.0), l.1)
 let_long e z J d rest = stored_long (term_source e z J) d (term_code e z J d Value) rest (found_short e z J d)
 
 pub let_within : (whole rest : Statement) (e : Term) (p : _) (x : Source) (z : Sizes) (J : List ℕ) (d : ℕ)

@@ -14,6 +14,7 @@ pub mod TallyLaws
 pub mod SortLaws
 pub mod Rows
 pub mod FitsLess
+pub mod Shared
 pub mod Typing
 pub mod TypedTerms
 pub mod TypedBlocks

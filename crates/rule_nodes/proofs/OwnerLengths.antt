@@ -14,7 +14,7 @@ use Rattle.rule_syntax.specs.declared.syntax.Term.TheVariants.{Count', Least'}
 use Rattle.rule_syntax.specs.declared.syntax.Statement.{Statement}
 use Rattle.rule_syntax.specs.declared.syntax.Statement.TheVariants.{Nothing, Then', Let', Assign, If', For', SendAll, SendTo}
 use Rattle.rule_nodes.specs.Operands.{term_source}
-use Rattle.rule_nodes.specs.Code.{number_place, keep_code, place_code, tallied_code, tally_test, term_code, stored_code, let_code, if_code, is_nothing, each_code, block_code, tail_code, rule_code}
+use Rattle.rule_nodes.specs.Code.{number_place, keep_code, place_code, tallied_code, term_code, over_code, stored_code, let_code, if_code, is_nothing, each_code, block_code, tail_code, rule_code}
 use Rattle.rule_nodes.specs.Owners.{statements_in, jump_slots, test_slots, each_owners, owners_of}
 use Rattle.rule_nodes.proofs.Blocks.{nothing_here}
 
@@ -33,10 +33,8 @@ stored_split Computed d code rest =
 
 let_split : (e : Term) (z : Sizes) (J : List ℕ) (d : ℕ) (rest : List Insn)
     → length (let_code e z J d rest) ≡ length (let_code e z J d []) + length rest
-let_split (Count' p t) z J d rest =
-    placed_split (tallied_code HowMany d z.nodes (λ j. term_code t z (J ++ j ∷ []) (d + 1) (tally_test HowMany d))) rest
-let_split (Least' p t) z J d rest =
-    placed_split (tallied_code LeastMessage d z.nodes (λ j. term_code t z (J ++ j ∷ []) (d + 1) (tally_test LeastMessage d))) rest
+let_split (Count' p t) z J d rest = placed_split (tallied_code HowMany d (over_code HowMany t z J d)) rest
+let_split (Least' p t) z J d rest = placed_split (tallied_code LeastMessage d (over_code LeastMessage t z J d)) rest
 let_split e z J d rest = stored_split (term_source e z J) d (term_code e z J d Value) rest
 
 if_long : (alone : Bool) (test : ℕ → List Insn) (a b : List Insn) → (alone ≡ true → length b ≡ 0)

@@ -59,3 +59,7 @@ pub tally_small : (tally : Tally) (n : ℕ) (holds message : ℕ → ℕ) → n 
     → tally_below tally n holds message < 2 ^ 32
 tally_small HowMany n holds message few = omega (arith, counts_few n holds, few)
 tally_small LeastMessage n holds message few = least_small n holds message
+
+pub tally_start_small : (tally : Tally) → tally_start tally < 2 ^ 32
+tally_start_small HowMany = omega arith
+tally_start_small LeastMessage = omega arith

@@ -1,5 +1,5 @@
 -- The runs of terms.
-use Rattle.std.proofs.Common.{◌≡◌, ℕ, zero, suc, ◌+◌, ◌-◌, ◌%◌, ◌*◌, ◌^◌, ◌<◌, ◌≤◌, ◌==◌, Bool, true, false, not, if◌then◌else◌, ◌&&◌, ◌||◌, ◌⊎◌, min, nat_lt, nat_le, List, [], ◌∷◌, ◌++◌, length, Some, Ok, All, pos, slice_index, slice_get, refl, sym, ap, ◌∙◌, arith, subst, inl, inr, length-append}
+use Rattle.std.proofs.Common.{◌≡◌, ◌≢◌, ℕ, zero, suc, ◌+◌, ◌-◌, ◌%◌, ◌*◌, ◌^◌, ◌<◌, ◌≤◌, ◌==◌, Bool, true, false, not, if◌then◌else◌, ◌&&◌, ◌||◌, ◌⊎◌, min, nat_lt, nat_le, List, [], ◌∷◌, ◌++◌, length, Some, Ok, All, pos, slice_index, slice_get, refl, sym, ap, ◌∙◌, arith, subst, inl, inr, length-append}
 use Rattle.std.specs.Int.{w32, w64, cast_signed, cast_unsigned}
 use Rattle.std.specs.FinMap.{get}
 use Rattle.std.proofs.lemmas.Bool.{cases_Bool, cases_lt, lt-ltb, ltb-true, ltb-false, le-leb, lt-leb, cond-true, cond-false, and_parts}
@@ -44,15 +44,16 @@ use Rattle.rule_nodes.specs.declared.numbers.Source.TheVariants.{Constant, FromL
 use Rattle.rule_syntax.specs.declared.syntax.Term.{Term}
 use Rattle.rule_syntax.specs.declared.syntax.Term.TheVariants.{Number, Nodes, Faults, Modulus, Me, Coin, LoopNode, Local, Word, Message', Binary', Logical', Not', Choice', Count', Least', Sorted'}
 use Rattle.rule_nodes.specs.Meaning.{NodeState, value, word_at, apply, compare, bit_of, truth, apply_operator, combine, message_from, numbers_of_nodes, in_order, number_at_place}
-use Rattle.rule_nodes.specs.Operands.{is_constant, is_fetched, is_operand, constant_number, depth_behind, fetched_source, term_source}
-use Rattle.rule_nodes.specs.Fits.{HasPlace, Fits}
-use Rattle.rule_nodes.specs.Code.{number_place, fetch_code, keep_code, increment_code, place_operand, load_place, set_number, copy, alu_op_of, cond_of, jump_on, jump_by, jump_at, beyond_purpose, truth_code, by_value, by_test, get_code, operand_code, load_code, jump_register, by_operator, left_code, right_code, beside_code, binary_code, choice_code, if_code, decides, both_far, both_code, message_code, message_by, mirror, set_node, lower_code, tally_start, tally_step, tally_codes, tallied_code, tally_code, tally_test, items_code, exchange_code, exchange_codes, pass_code, pass_codes, nearer_end, passes_before, sorted_code, term_code}
+use Rattle.rule_nodes.specs.Operands.{is_constant, is_fetched, is_operand, is_shared, constant_number, depth_behind, fetched_source, term_source}
+use Rattle.rule_nodes.specs.Fits.{HasPlace, SidesFit, Fits, TallyFits}
+use Rattle.rule_nodes.specs.Code.{number_place, fetch_code, keep_code, increment_code, place_operand, load_place, set_number, copy, alu_op_of, cond_of, jump_on, jump_by, jump_at, beyond_purpose, truth_code, by_value, by_test, get_code, operand_code, load_code, jump_register, by_operator, left_code, right_code, beside_code, binary_code, choice_code, if_code, decides, both_far, both_code, message_code, message_by, mirror, set_node, lower_code, tally_start, tally_step, tests_code, tallied_code, tally_code, tally_test, shared_code, sides_code, items_code, exchange_code, exchange_codes, pass_code, pass_codes, nearer_end, passes_before, sorted_code, term_code, over_code}
 use Rattle.rule_nodes.proofs.Places.{inside, IsInside, IsPlace, place_is, not_frame, IsIn, At, IsFramed, Placed, fetches, keeps_at, starts_at, put_at}
 use Rattle.rule_nodes.proofs.Sources.{is_found}
-use Rattle.rule_nodes.proofs.TallyLaws.{steps_alike, tally_next, tally_below, tally_none, tally_more, tally_stays, tally_small}
+use Rattle.rule_nodes.proofs.TallyLaws.{steps_alike, tally_next, tally_below, tally_none, tally_more, tally_stays, tally_small, tally_start_small}
 use Rattle.rule_nodes.proofs.SortLaws.{kept, left, kept_first, kept_second, left_second, left_first, kept_small, left_small, pass_keeps, pass_leaves, kept_of, left_of, left_after, left_long, sorted_found, sorted_none, numbers_long}
 use Rattle.rule_nodes.proofs.Rows.{But, but_same, but_placed, but_then, same_but, AreAt, are_same, are_but, are_more}
 use Rattle.rule_nodes.proofs.FitsLess.{fits_less}
+use Rattle.rule_nodes.proofs.Shared.{shared_value}
 use Rattle.rule_nodes.proofs.Small.{low, imm_low, mirrored, apply_small, operate_small, taken, compared_low, compared, truth_of, jump_compared, jump_by_zero, not_not}
 use Rattle.rule_nodes.proofs.Words.{word_loaded, word_small}
 use Rattle.rule_nodes.proofs.Forms.{sets_number, copies, operates, counts, passes, jumps, numbers, Reaches, stays, once, chain, further}
@@ -228,6 +229,72 @@ module _ (program : List Insn) (env : Setting) (last : ℕ) (solid : (k : ℕ) �
         slot = p.slot;
         fact = record {
           same = same_then d s t p.new has.same (same_placed d d v t p.new (omega arith) few p.fact);
+          there = p.fact.there;
+        };
+      }
+
+  -- what stays while place d changes, and the places below e
+  pub record Around (d e : ℕ) (s t : MachineState) : Type 0 where
+    pub r6 : get t.frame.registers 6 ≡ get s.frame.registers 6
+    pub places : (k v : ℕ) → k ≢ d → k < e → At k s v → At k t v
+    pub framed : IsFramed s → IsFramed t
+    pub memory : t.memory ≡ s.memory
+    pub sent : t.sent ≡ s.sent
+
+  around_same : (d e : ℕ) (s t : MachineState) → Same e s t → Around d e s t
+  around_same d e s t h = record {
+    r6 = h.r6;
+    places = λ k v other lt x. h.places k v lt x;
+    framed = h.framed;
+    memory = h.memory;
+    sent = h.sent;
+  }
+
+  around_then : (d e : ℕ) (s t u : MachineState) → Around d e s t → Around d e t u → Around d e s u
+  around_then d e s t u h g = record {
+    r6 = g.r6 ∙ h.r6;
+    places = λ k v other lt x. g.places k v other lt (h.places k v other lt x);
+    framed = λ x. g.framed (h.framed x);
+    memory = g.memory ∙ h.memory;
+    sent = g.sent ∙ h.sent;
+  }
+
+  same_around : (d e : ℕ) (s t : MachineState) → d ≤ e → Around d e s t → Same d s t
+  same_around d e s t le h = record {
+    r6 = h.r6;
+    places = λ k v lt x. h.places k v (λ q. omega (arith, q, lt)) (omega (arith, lt, le)) x;
+    framed = h.framed;
+    memory = h.memory;
+    sent = h.sent;
+  }
+
+  around_placed : (d e v : ℕ) (s t : MachineState) → e ≤ PLACES → Placed d v s t → Around d e s t
+  around_placed d e v s t few h = record {
+    r6 = h.r6;
+    places = λ k w other lt x. h.others k w other (omega (arith, lt, few)) x;
+    framed = h.framed;
+    memory = h.memory;
+    sent = h.sent;
+  }
+
+  -- place d has changed to this number
+  pub record Changed (d e : ℕ) (s : MachineState) (v : ℕ) (t : MachineState) : Type 0 where
+    pub around : Around d e s t
+    pub there : At d t v
+
+  -- by r0, after a run
+  change_runs : (d e v : ℕ) (s t : MachineState) (k : ℕ) → d < e → e ≤ PLACES → Reaches program env s t k → Has e s v t
+      → IsFramed s → insn_at program t.frame.slot ≡ Some (keep_code (number_place d)) → t.frame.slot + 1 ≤ last
+      → Gets s (t.frame.slot + 1) (k + 1) (Changed d e s v)
+  change_runs d e v s t k lt few run has framed here le =
+      let p = keeps_at program env d v t (t.frame.slot + 1) (omega (arith, lt, few)) here refl (solid _ le) has.r0
+      (has.same.framed framed) has.small in
+      record {
+        new = p.new;
+        run = further program env s t p.new k (k + 1) run p.runs (omega arith);
+        slot = p.slot;
+        fact = record {
+          around = around_then d e s t p.new (around_same d e s t has.same) (around_placed d e v t p.new few p.fact);
           there = p.fact.there;
         };
       }
@@ -745,6 +812,9 @@ module _ (program : List Insn) (env : Setting) (last : ℕ) (solid : (k : ℕ) �
       by_test_runs purpose (λ when far. code ++ jump_by (jump_on when r) src far ∷ []) d (compare r a b) s stands le
       (compare_runs r src d a b code s two)
 
+  pub some_nodes : (z : Sizes) → IsSized z env → 1 ≤ z.nodes
+  some_nodes z sized = omega (arith, sized.nodes, sized.setting.extent.some)
+
   pub nodes_few : (z : Sizes) → IsSized z env → z.nodes < 2 ^ 31
   nodes_few z sized = omega (arith, sized.nodes, sized.setting.extent.few)
 
@@ -1219,17 +1289,17 @@ module _ (program : List Insn) (env : Setting) (last : ℕ) (solid : (k : ℕ) �
   -- ---- tallies
 
   -- one more in place d
-  increment_runs : (d v : ℕ) (s : MachineState) → d < PLACES → v + 1 < 2 ^ 32 → At d s v → IsFramed s
+  increment_runs : (d e v : ℕ) (s : MachineState) → d < e → e ≤ PLACES → v + 1 < 2 ^ 32 → At d s v → IsFramed s
       → Stands program s.frame.slot (increment_code (number_place d))
       → s.frame.slot + length (increment_code (number_place d)) ≤ last
       → Gets s (s.frame.slot + length (increment_code (number_place d))) (length (increment_code (number_place d)))
-      (InPlace d s (v + 1))
-  increment_runs d v s few small at framed stands le = by (number_place d) refl
+      (Changed d e s (v + 1))
+  increment_runs d e v s lt few small at framed stands le = by (number_place d) refl
     where
       by : (p : Place) → number_place d ≡ p → Gets s (s.frame.slot + length (increment_code (number_place d)))
-          (length (increment_code (number_place d))) (InPlace d s (v + 1))
+          (length (increment_code (number_place d))) (Changed d e s (v + 1))
       by (InRegister register) is =
-          let ours : IsPlace (InRegister register) d = subst (λ (p : Place). IsPlace p d) is (place_is d few) in
+          let ours : IsPlace (InRegister register) d = subst (λ (p : Place). IsPlace p d) is (place_is d (omega (arith, lt, few))) in
           let st : Stands program s.frame.slot (increment_code (InRegister register)) =
           subst (λ (p : Place). Stands program s.frame.slot (increment_code p)) is stands in
           let l : s.frame.slot + 1 ≤ last =
@@ -1237,15 +1307,15 @@ module _ (program : List Insn) (env : Setting) (last : ℕ) (solid : (k : ℕ) �
           let from : get s.frame.registers (register_number register) ≡ Some (Num v) =
           subst (λ (p : Place). IsIn p s.frame.registers s.frame.stack v) is at in
           let t = put s (s.frame.slot + 1) register (Num (v + 1)) in
-          let e : step program env s ≡ Ok (Running t) = counts program env s (s.frame.slot + 1) register v st.0 refl
+          let one : step program env s ≡ Ok (Running t) = counts program env s (s.frame.slot + 1) register v st.0 refl
           (solid _ l) from (not_frame register (omega (arith, ours.0, ours.1))) small in
           let f : Placed d (v + 1) s t = put_at program env register d (v + 1) s (s.frame.slot + 1) is ours.0 ours.1 in
           let long : 1 ≡ length (increment_code (number_place d)) = ap (λ (p : Place). length (increment_code p)) (sym is) in
           record {
             new = t;
-            run = chain program env s t t 1 0 _ (once program env s t e) (stays program env t) (omega (arith, long));
+            run = chain program env s t t 1 0 _ (once program env s t one) (stays program env t) (omega (arith, long));
             slot = omega (arith, long);
-            fact = record { same = same_placed d d (v + 1) s t (omega arith) few f; there = f.there };
+            fact = record { around = around_placed d e (v + 1) s t few f; there = f.there };
           }
       by (OnStack off) is =
           let st : Stands program s.frame.slot (increment_code (OnStack off)) =
@@ -1256,31 +1326,31 @@ module _ (program : List Insn) (env : Setting) (last : ℕ) (solid : (k : ℕ) �
           subst (λ (p : Place). insn_at program s.frame.slot ≡ Some (fetch_code R0 p)) (sym is) st.0 in
           let last_one : insn_at program (s.frame.slot + 1 + 1) ≡ Some (keep_code (number_place d)) =
           subst (λ (p : Place). insn_at program (s.frame.slot + 1 + 1) ≡ Some (keep_code p)) (sym is) st.1.1.0 in
-          let c = fetch_runs d d v s (omega (arith, small)) at framed (here, tt) (omega (arith, l)) in
+          let c = fetch_runs e d v s (omega (arith, small)) at framed (here, tt) (omega (arith, l)) in
           let t = c.new in
           let t1 = put t (t.frame.slot + 1) R0 (Num (v + 1)) in
-          let e : step program env t ≡ Ok (Running t1) = counts program env t (t.frame.slot + 1) R0 v
+          let one : step program env t ≡ Ok (Running t1) = counts program env t (t.frame.slot + 1) R0 v
           (ap (insn_at program) c.slot ∙ st.1.0) refl (solid _ (omega (arith, l, c.slot))) c.fact.r0 refl small in
-          let has : Has d s (v + 1) t1 = record {
-            same = same_put d s t (t.frame.slot + 1) R0 (Num (v + 1)) (omega arith) c.fact.same;
+          let has : Has e s (v + 1) t1 = record {
+            same = same_put e s t (t.frame.slot + 1) R0 (Num (v + 1)) (omega arith) c.fact.same;
             r0 = put_same t.frame.registers 0 (Num (v + 1));
             small = small;
           } in
           let there : insn_at program (t.frame.slot + 1) ≡ Some (keep_code (number_place d)) =
           ap (λ (n : ℕ). insn_at program (n + 1)) c.slot ∙ last_one in
-          let k = keep_runs d (v + 1) s t1 2 few (further program env s t t1 1 2 c.run e (omega arith)) has framed there
+          let k = change_runs d e (v + 1) s t1 2 lt few (further program env s t t1 1 2 c.run one (omega arith)) has framed there
           (omega (arith, l, c.slot)) in
           let long : 3 ≡ length (increment_code (number_place d)) = ap (λ (p : Place). length (increment_code p)) (sym is) in
-          gets s _ _ _ _ (InPlace d s (v + 1)) (InPlace d s (v + 1)) (omega (arith, long, c.slot)) (omega (arith, long))
+          gets s _ _ _ _ (Changed d e s (v + 1)) (Changed d e s (v + 1)) (omega (arith, long, c.slot)) (omega (arith, long))
           (λ w h. h) k
 
   -- the message from node j into place d, if it is less than the number there
-  lower_runs : (z : Sizes) (d j v : ℕ) (s : MachineState) → IsSized z env → j < z.nodes → d < PLACES → v < 2 ^ 32
+  lower_runs : (z : Sizes) (d e j v : ℕ) (s : MachineState) → IsSized z env → j < z.nodes → d < e → e ≤ PLACES → v < 2 ^ 32
       → At d s v → IsFramed s → Stands program s.frame.slot (lower_code (number_place d) j)
       → s.frame.slot + length (lower_code (number_place d) j) ≤ last
       → Gets s (s.frame.slot + length (lower_code (number_place d) j)) (length (lower_code (number_place d) j))
-      (InPlace d s (min (message_from z env j) v))
-  lower_runs z d j v s sized lt few small at framed stands le =
+      (Changed d e s (min (message_from z env j) v))
+  lower_runs z d e j v s sized lt below few small at framed stands le =
       let p = number_place d in
       let asked = set_node R1 j ∷ i.Call (pos 2) ∷ [] in
       let left = asked ++ load_place p in
@@ -1288,105 +1358,104 @@ module _ (program : List Insn) (env : Setting) (last : ℕ) (solid : (k : ℕ) �
       let len : length (left ++ back) ≡ length left + 2 = length-append left back in
       let a = received env j in
       let least = min (message_from z env j) v in
-      let c = place_loaded p (d + 1) a v asked s (inside d) (λ t same. same.places d v (omega arith) at) framed small
+      let c = place_loaded p e a v asked s (inside d) (λ t same. same.places d v below at) framed small
       (stands_front program s.frame.slot left back stands) (omega (arith, len, le))
-      (λ st l. known_node_runs z (d + 1) j s sized lt st l) in
+      (λ st l. known_node_runs z e j s sized lt st l) in
       let t = c.new in
       let there = here_is t _ back c.slot (stands_back program s.frame.slot left back stands) in
       let g = branch_leads s t (length left) 1 (cond_of AtLeast) R0 (place_operand p) a c.fact.raw (nat_le v a) c.run
       there.0 c.fact.r0 c.fact.other (compared_low AtLeast a v c.fact.raw c.fact.left c.fact.low_bits)
       (omega (arith, len, le, c.slot)) in
       let w = g.new in
-      let same : Same (d + 1) s w = same_alike (d + 1) s t w c.fact.same g.fact in
+      let same : Same e s w = same_alike e s t w c.fact.same g.fact in
       let is : a ≡ message_from z env j = sym (cond-true (nat_lt j z.nodes) a 4294967295 (lt-ltb j z.nodes lt)) in
       elim (cases_lt a v) [
         | inl less ↦
             let miss : hop (nat_le v a) 1 ≡ 0 = rw (lt-leb v a less) refl in
             let slot : w.frame.slot ≡ t.frame.slot + 1 = omega (arith, g.slot, miss) in
-            let e : a ≡ least = omega (arith, is, less) in
-            let has : Has d s a w = record {
-              same = same_less d s w same;
+            let is_least : a ≡ least = omega (arith, is, less) in
+            let has : Has e s a w = record {
+              same = same;
               r0 = ap (λ m. get m 0) g.fact.registers ∙ c.fact.r0;
               small = c.fact.left;
             } in
-            let k = keep_runs d a s w (length left + 1) few g.run has framed (ap (insn_at program) slot ∙ there.1.0)
+            let k = change_runs d e a s w (length left + 1) below few g.run has framed (ap (insn_at program) slot ∙ there.1.0)
             (omega (arith, len, le, slot, c.slot)) in
-            gets s _ _ _ _ (InPlace d s a) (InPlace d s least) (omega (arith, len, slot, c.slot)) (omega (arith, len))
-            (λ x h. subst (λ (y : ℕ). InPlace d s y x) e h) k
+            gets s _ _ _ _ (Changed d e s a) (Changed d e s least) (omega (arith, len, slot, c.slot)) (omega (arith, len))
+            (λ x h. subst (λ (y : ℕ). Changed d e s y x) is_least h) k
         | inr above ↦
             let hit : hop (nat_le v a) 1 ≡ 1 = rw (le-leb v a above) refl in
-            let e : v ≡ least = omega (arith, is, above) in
+            let is_least : v ≡ least = omega (arith, is, above) in
             record {
               new = w;
               run = chain program env s w w (length left + 1) 0 (length (left ++ back)) g.run (stays program env w)
                   (omega (arith, len));
               slot = omega (arith, len, g.slot, c.slot, hit);
               fact = record {
-                same = same_less d s w same;
-                there = subst (λ (y : ℕ). At d w y) e (same.places d v (omega arith) at);
+                around = around_same d e s w same;
+                there = subst (λ (y : ℕ). At d w y) is_least (same.places d v below at);
               };
             }
       ]
 
-  step_runs : (tally : Tally) (z : Sizes) (d j v : ℕ) (s : MachineState) → IsSized z env → j < z.nodes → d < PLACES
-      → v < 2 ^ 32 → tally_next tally (message_from z env) j v < 2 ^ 32 → At d s v → IsFramed s
+  step_runs : (tally : Tally) (z : Sizes) (d e j v : ℕ) (s : MachineState) → IsSized z env → j < z.nodes → d < e
+      → e ≤ PLACES → v < 2 ^ 32 → tally_next tally (message_from z env) j v < 2 ^ 32 → At d s v → IsFramed s
       → Stands program s.frame.slot (tally_step tally (number_place d) j)
       → s.frame.slot + length (tally_step tally (number_place d) j) ≤ last
       → Gets s (s.frame.slot + length (tally_step tally (number_place d) j)) (length (tally_step tally (number_place d) j))
-      (InPlace d s (tally_next tally (message_from z env) j v))
-  step_runs HowMany z d j v s sized lt few small next at framed stands le =
-      increment_runs d v s few next at framed stands le
-  step_runs LeastMessage z d j v s sized lt few small next at framed stands le =
-      lower_runs z d j v s sized lt few small at framed stands le
+      (Changed d e s (tally_next tally (message_from z env) j v))
+  step_runs HowMany z d e j v s sized lt below few small next at framed stands le =
+      increment_runs d e v s below few next at framed stands le
+  step_runs LeastMessage z d e j v s sized lt below few small next at framed stands le =
+      lower_runs z d e j v s sized lt below few small at framed stands le
 
-  -- the runs of the tests of a tally
-  abbrev pub TallyTests : Tally → ℕ → ℕ → (ℕ → List Insn) → (ℕ → ℕ) → MachineState → Type 0
-  TallyTests tally d n test holds s = (j : ℕ) (t : MachineState) → j < n → Same d s t
+  -- the runs of the tests of a tally in place d, at depth e
+  abbrev pub TallyTests : Tally → ℕ → ℕ → ℕ → (ℕ → List Insn) → (ℕ → ℕ) → MachineState → Type 0
+  TallyTests tally d e n test holds s = (j : ℕ) (t : MachineState) → j < n → Around d e s t
       → Stands program t.frame.slot (test j)
       → t.frame.slot + length (test j) + length (tally_step tally (number_place d) 0) ≤ last
       → Gets t (t.frame.slot + length (test j) + landing false (holds j) (length (tally_step tally (number_place d) 0)))
-      (length (test j)) (Same (d + 1) t)
+      (length (test j)) (Same e t)
 
-  tallies_run : (tally : Tally) (z : Sizes) (d : ℕ) (test : ℕ → List Insn) (holds : ℕ → ℕ) (s : MachineState) (m : ℕ)
-      → IsSized z env → d < PLACES → m ≤ z.nodes → IsFramed s
-      → Stands program s.frame.slot (tally_codes (tally_step tally (number_place d)) test m)
-      → s.frame.slot + length (tally_codes (tally_step tally (number_place d)) test m) ≤ last
-      → At d s (tally_start tally) → TallyTests tally d z.nodes test holds s
-      → Gets s (s.frame.slot + length (tally_codes (tally_step tally (number_place d)) test m))
-      (length (tally_codes (tally_step tally (number_place d)) test m))
-      (InPlace d s (tally_below tally m holds (message_from z env)))
-  tallies_run tally z d test holds s zero sized small le framed stands fits start each = record {
+  tests_run : (tally : Tally) (z : Sizes) (d e : ℕ) (test : ℕ → List Insn) (holds : ℕ → ℕ) (s : MachineState) (m : ℕ)
+      → IsSized z env → d < e → e ≤ PLACES → m ≤ z.nodes → IsFramed s
+      → Stands program s.frame.slot (tests_code tally d m test)
+      → s.frame.slot + length (tests_code tally d m test) ≤ last
+      → At d s (tally_start tally) → TallyTests tally d e z.nodes test holds s
+      → Gets s (s.frame.slot + length (tests_code tally d m test)) (length (tests_code tally d m test))
+      (Changed d e s (tally_below tally m holds (message_from z env)))
+  tests_run tally z d e test holds s zero sized below few le framed stands fits start each = record {
     new = s;
     run = stays program env s;
     slot = omega arith;
     fact = record {
-      same = same_self d s;
+      around = around_same d e s s (same_self e s);
       there = subst (λ (y : ℕ). At d s y) (tally_none tally holds (message_from z env)) start;
     };
   }
-  tallies_run tally z d test holds s (suc m) sized small le framed stands fits start each =
+  tests_run tally z d e test holds s (suc m) sized below few le framed stands fits start each =
       let steps = tally_step tally (number_place d) in
       let message = message_from z env in
-      let front = tally_codes steps test m in
+      let front = tests_code tally d m test in
       let add = steps m in
       let back = test m ++ add in
       let len : length (front ++ back) ≡ length front + (length (test m) + length add) = omega
       (arith, length-append front back, length-append (test m) add) in
       let alike : length add ≡ length (steps 0) = steps_alike tally (number_place d) m in
-      let c = tallies_run tally z d test holds s m sized small (omega (arith, le)) framed
+      let c = tests_run tally z d e test holds s m sized below few (omega (arith, le)) framed
       (stands_front program s.frame.slot front back stands) (omega (arith, len, fits)) start each in
       let t = c.new in
       let at_back = here_is t _ back c.slot (stands_back program s.frame.slot front back stands) in
-      let g = each m t (omega (arith, le)) c.fact.same (stands_front program t.frame.slot (test m) add at_back)
+      let g = each m t (omega (arith, le)) c.fact.around (stands_front program t.frame.slot (test m) add at_back)
       (omega (arith, len, alike, fits, c.slot)) in
       let w = g.new in
       let v = tally_below tally m holds message in
       let total = tally_below tally (suc m) holds message in
-      let kept : At d w v = g.fact.places d v (omega arith) c.fact.there in
-      let same : Same d s w = same_then d s t w c.fact.same (same_less d t w g.fact) in
+      let kept : At d w v = g.fact.places d v below c.fact.there in
+      let around : Around d e s w = around_then d e s t w c.fact.around (around_same d e t w g.fact) in
       let run = chain program env s t w (length front) (length (test m)) (length front + length (test m)) c.run g.run
       (omega arith) in
-      let few : z.nodes < 2 ^ 31 = nodes_few z sized in
+      let most : z.nodes < 2 ^ 31 = nodes_few z sized in
       elim (cases_Bool (truth (holds m))) [
         | inl so ↦
             let none : landing false (holds m) (length (steps 0)) ≡ 0 = rw so refl in
@@ -1394,16 +1463,16 @@ module _ (program : List Insn) (env : Setting) (last : ℕ) (solid : (k : ℕ) �
             let there = here_is w _ add slot (stands_back program t.frame.slot (test m) add at_back) in
             let one : tally_next tally message m v ≡ total = tally_more tally m holds message so in
             let bits : tally_next tally message m v < 2 ^ 32 = subst (λ (y : ℕ). y < 2 ^ 32) (sym one)
-            (tally_small tally (suc m) holds message (omega (arith, le, few))) in
-            let x = step_runs tally z d m v w sized (omega (arith, le)) small
-            (tally_small tally m holds message (omega (arith, le, few))) bits kept (same.framed framed) there
+            (tally_small tally (suc m) holds message (omega (arith, le, most))) in
+            let x = step_runs tally z d e m v w sized (omega (arith, le)) below few
+            (tally_small tally m holds message (omega (arith, le, most))) bits kept (around.framed framed) there
             (omega (arith, len, fits, slot, c.slot)) in
             record {
               new = x.new;
               run = chain program env s w x.new _ (length add) (length (front ++ back)) run x.run (omega (arith, len));
               slot = omega (arith, len, slot, c.slot, x.slot);
               fact = record {
-                same = same_then d s w x.new same x.fact.same;
+                around = around_then d e s w x.new around x.fact.around;
                 there = subst (λ (y : ℕ). At d x.new y) one x.fact.there;
               };
             }
@@ -1415,54 +1484,113 @@ module _ (program : List Insn) (env : Setting) (last : ℕ) (solid : (k : ℕ) �
               run = chain program env s w w _ 0 (length (front ++ back)) run (stays program env w) (omega (arith, len));
               slot = omega (arith, len, slot, c.slot);
               fact = record {
-                same = same;
+                around = around;
                 there = subst (λ (y : ℕ). At d w y) (tally_stays tally m holds message other) kept;
               };
             }
       ]
 
-  pub tallied_runs : (tally : Tally) (z : Sizes) (d : ℕ) (test : ℕ → List Insn) (holds : ℕ → ℕ) (s : MachineState)
-      → IsSized z env → d < PLACES → IsFramed s → Stands program s.frame.slot (tallied_code tally d z.nodes test)
-      → s.frame.slot + length (tallied_code tally d z.nodes test) ≤ last → TallyTests tally d z.nodes test holds s
-      → Gets s (s.frame.slot + length (tallied_code tally d z.nodes test)) (length (tallied_code tally d z.nodes test))
-      (InPlace d s (tally_below tally z.nodes holds (message_from z env)))
-  tallied_runs tally z d test holds s sized small framed stands fits each =
-      let codes = tally_codes (tally_step tally (number_place d)) test z.nodes in
+  -- the runs of the tests of a tally that has begun in place d
+  abbrev pub OverRuns : Tally → ℕ → List Insn → ℕ → MachineState → Type 0
+  OverRuns tally d tests v s = (t : MachineState) → Same d s t → At d t (tally_start tally)
+      → Stands program t.frame.slot tests → t.frame.slot + length tests ≤ last
+      → Gets t (t.frame.slot + length tests) (length tests) (InPlace d t v)
+
+  -- at a depth behind it
+  plain_tests_run : (tally : Tally) (z : Sizes) (d : ℕ) (test : ℕ → List Insn) (holds : ℕ → ℕ) (s : MachineState)
+      → IsSized z env → d < PLACES → IsFramed s
+      → ((t : MachineState) → Same d s t → TallyTests tally d (d + 1) z.nodes test holds t)
+      → OverRuns tally d (tests_code tally d z.nodes test) (tally_below tally z.nodes holds (message_from z env)) s
+  plain_tests_run tally z d test holds s sized small framed each t same start stands le =
+      let v = tally_below tally z.nodes holds (message_from z env) in
+      gets t _ _ _ _ (Changed d (d + 1) t v) (InPlace d t v) refl (omega arith)
+      (λ w c. record { same = same_around d (d + 1) t w (omega arith) c.around; there = c.there })
+      (tests_run tally z d (d + 1) test holds t z.nodes sized (omega arith) (omega (arith, small)) (omega arith)
+      (same.framed framed) stands le start (each t same))
+
+  -- a place is the right side, and the left one is computed
+  place_right_runs : (o : Operator) (purpose : Purpose) (k d a b : ℕ) (left : List Insn) (s : MachineState) → k < d
+      → At k s b → b < 2 ^ 32 → IsFramed s → Stands program s.frame.slot (right_code o (FromLocal k) purpose left)
+      → s.frame.slot + length (right_code o (FromLocal k) purpose left) + beyond_purpose purpose ≤ last
+      → (Stands program s.frame.slot left → s.frame.slot + length left ≤ last
+      → Gets s (s.frame.slot + length left) (length left) (Has d s a))
+      → Reached purpose d s (s.frame.slot + length (right_code o (FromLocal k) purpose left))
+      (length (right_code o (FromLocal k) purpose left)) (apply_operator o a b)
+  place_right_runs o purpose k d a b left s lt at_k small framed stands room first =
+      let p = number_place k in
+      operator_runs o (place_operand p) purpose d a b (left ++ load_place p) s stands room
+      (λ st l. place_loaded p d a b left s (inside k) (λ t same. same.places k b lt at_k) framed small st l first)
+
+  -- the right number is kept in place d + 1
+  shared_tests_run : (tally : Tally) (z : Sizes) (d b : ℕ) (o : Operator) (right : List Insn) (left : ℕ → List Insn)
+      (a : ℕ → ℕ) (s : MachineState) → IsSized z env → d + 1 < PLACES → IsFramed s
+      → ((t : MachineState) → Same d s t → Stands program t.frame.slot right → t.frame.slot + length right ≤ last
+      → Gets t (t.frame.slot + length right) (length right) (Has (d + 1) t b))
+      → ((j : ℕ) (t : MachineState) → j < z.nodes → Same d s t → Stands program t.frame.slot (left j)
+      → t.frame.slot + length (left j) ≤ last
+      → Gets t (t.frame.slot + length (left j)) (length (left j)) (Has (d + 2) t (a j)))
+      → OverRuns tally d (shared_code tally d z.nodes o right left)
+      (tally_below tally z.nodes (λ j. apply_operator o (a j) b) (message_from z env)) s
+  shared_tests_run tally z d b o right left a s sized small framed first second t same start stands le =
+      let holds = λ (j : ℕ). apply_operator o (a j) b in
+      let v = tally_below tally z.nodes holds (message_from z env) in
+      let test = λ (j : ℕ). right_code o (FromLocal (d + 1)) (tally_test tally d) (left j) in
+      let tests = tests_code tally d z.nodes test in
+      let whole = shared_code tally d z.nodes o right left in
+      gets t _ _ _ _ (InPlace d t v) (InPlace d t v) (omega arith) (omega arith) (λ w h. h)
+      (kept_runs (d + 1) b 0 right tests t (InPlace d t v) small (same.framed framed) stands le (first t same)
+      (λ w is bits st l at_w.
+      let began : At d w (tally_start tally) = is.same.places d (tally_start tally) (omega arith) start in
+      let same_w : Same d t w = same_less d t w is.same in
+      gets w _ _ _ _ (Changed d (d + 2) w v) (InPlace d t v) (omega arith) (omega arith)
+      (λ x c. record {
+        same = same_then d t w x same_w (same_around d (d + 2) w x (omega arith) c.around);
+        there = c.there;
+      })
+      (tests_run tally z d (d + 2) test holds w z.nodes sized (omega arith) (omega (arith, small)) (omega arith)
+      (is.same.framed (same.framed framed)) st l began
+      (λ j x lt around st2 l2.
+      let same_x : Same d s x = same_then d s t x same (same_then d t w x same_w
+      (same_around d (d + 2) w x (omega arith) around)) in
+      place_right_runs o (tally_test tally d) (d + 1) (d + 2) (a j) b (left j) x (omega arith)
+      (around.places (d + 1) b (λ q. omega (arith, q)) (omega arith) is.there) bits
+      (around.framed (is.same.framed (same.framed framed))) st2 l2 (second j x lt same_x)))))
+
+  pub tallied_runs : (tally : Tally) (d v : ℕ) (tests : List Insn) (s : MachineState) → d < PLACES → IsFramed s
+      → Stands program s.frame.slot (tallied_code tally d tests)
+      → s.frame.slot + length (tallied_code tally d tests) ≤ last → OverRuns tally d tests v s
+      → Gets s (s.frame.slot + length (tallied_code tally d tests)) (length (tallied_code tally d tests))
+      (InPlace d s v)
+  tallied_runs tally d v tests s small framed stands fits each =
       let first = tally_start tally in
-      let bits : first < 2 ^ 32 = subst (λ (y : ℕ). y < 2 ^ 32) (sym (tally_none tally holds (message_from z env)))
-      (tally_small tally 0 holds (message_from z env) (omega arith)) in
+      let bits : first < 2 ^ 32 = tally_start_small tally in
       let p = starts_at program env d first s (s.frame.slot + 1) small stands.0 refl (solid _ (omega (arith, fits)))
       framed bits in
       let s1 = p.new in
       let same1 : Same d s s1 = same_placed d d first s s1 (omega arith) small p.fact in
-      let c = tallies_run tally z d test holds s1 z.nodes sized small (omega arith) (p.fact.framed framed)
-      (here_is s1 _ codes p.slot stands.1) (omega (arith, fits, p.slot)) p.fact.there
-      (λ j t lt same. each j t lt (same_then d s s1 t same1 same)) in
+      let c = each s1 same1 p.fact.there (here_is s1 _ tests p.slot stands.1) (omega (arith, fits, p.slot)) in
       record {
         new = c.new;
-        run = chain program env s s1 c.new 1 (length codes) (length (tallied_code tally d z.nodes test))
+        run = chain program env s s1 c.new 1 (length tests) (length (tallied_code tally d tests))
             (once program env s s1 p.runs) c.run (omega arith);
         slot = omega (arith, c.slot, p.slot);
         fact = record { same = same_then d s s1 c.new same1 c.fact.same; there = c.fact.there };
       }
 
-  pub tally_runs : (tally : Tally) (z : Sizes) (d : ℕ) (test : ℕ → List Insn) (holds : ℕ → ℕ) (s : MachineState)
-      → IsSized z env → d < PLACES → IsFramed s → Stands program s.frame.slot (tally_code tally d z.nodes test)
-      → s.frame.slot + length (tally_code tally d z.nodes test) ≤ last → TallyTests tally d z.nodes test holds s
-      → Gets s (s.frame.slot + length (tally_code tally d z.nodes test)) (length (tally_code tally d z.nodes test))
-      (Has d s (tally_below tally z.nodes holds (message_from z env)))
-  tally_runs tally z d test holds s sized small framed stands fits each =
-      let codes = tallied_code tally d z.nodes test in
+  tally_runs : (tally : Tally) (d v : ℕ) (tests : List Insn) (s : MachineState) → d < PLACES → v < 2 ^ 32 → IsFramed s
+      → Stands program s.frame.slot (tally_code tally d tests)
+      → s.frame.slot + length (tally_code tally d tests) ≤ last → OverRuns tally d tests v s
+      → Gets s (s.frame.slot + length (tally_code tally d tests)) (length (tally_code tally d tests)) (Has d s v)
+  tally_runs tally d v tests s small bits framed stands fits each =
+      let codes = tallied_code tally d tests in
       let last_one = fetch_code R0 (number_place d) ∷ [] in
       let len : length (codes ++ last_one) ≡ length codes + 1 = length-append codes last_one in
-      let c = tallied_runs tally z d test holds s sized small framed
+      let c = tallied_runs tally d v tests s small framed
       (stands_front program s.frame.slot codes last_one stands) (omega (arith, len, fits)) each in
       let w = c.new in
-      let v = tally_below tally z.nodes holds (message_from z env) in
-      let few : z.nodes < 2 ^ 31 = nodes_few z sized in
       let there = here_is w _ last_one c.slot (stands_back program s.frame.slot codes last_one stands) in
-      let g = fetch_runs d d v w (tally_small tally z.nodes holds (message_from z env) (omega (arith, few))) c.fact.there
-      (c.fact.same.framed framed) there (omega (arith, len, fits, c.slot)) in
+      let g = fetch_runs d d v w bits c.fact.there (c.fact.same.framed framed) there
+      (omega (arith, len, fits, c.slot)) in
       record {
         new = g.new;
         run = chain program env s w g.new (length codes) 1 (length (codes ++ last_one)) c.run g.run (omega (arith, len));
@@ -1473,6 +1601,124 @@ module _ (program : List Insn) (env : Setting) (last : ℕ) (solid : (k : ℕ) �
           small = g.fact.small;
         };
       }
+
+  -- the runs of a term for its number, in any loops and at any depth
+  abbrev pub ValueRuns : Term → Sizes → ℕ → NodeState → Type 0
+  ValueRuns t z lets u = (I : List ℕ) (e : ℕ) (w : MachineState) → All (λ j. j < z.nodes) I → lets ≤ e
+      → Fits t z (length I) lets e → Holds env lets u w → Stands program w.frame.slot (term_code t z I e Value)
+      → w.frame.slot + length (term_code t z I e Value) ≤ last
+      → Gets w (w.frame.slot + length (term_code t z I e Value)) (length (term_code t z I e Value))
+      (Has e w (value t z env I u))
+
+  -- an operator between two terms
+  binary_runs : (o : Operator) (a b : Term) (z : Sizes) (J : List ℕ) (d lets : ℕ) (purpose : Purpose) (u : NodeState)
+      (s : MachineState) → IsSized z env → All (λ j. j < z.nodes) J → lets ≤ PLACES → lets ≤ d
+      → HasPlace (is_operand a || is_operand b) d → Fits a z (length J) lets d
+      → Fits b z (length J) lets (depth_behind (is_operand a || is_operand b) d) → Holds env lets u s
+      → ValueRuns a z lets u → ValueRuns b z lets u
+      → Stands program s.frame.slot (binary_code (term_source b z J) (term_source a z J) o d purpose
+      (term_code a z J d Value) (term_code b z J (depth_behind (is_operand a || is_operand b) d) Value))
+      → s.frame.slot + length (binary_code (term_source b z J) (term_source a z J) o d purpose
+      (term_code a z J d Value) (term_code b z J (depth_behind (is_operand a || is_operand b) d) Value))
+      + beyond_purpose purpose ≤ last
+      → Reached purpose d s (s.frame.slot + length (binary_code (term_source b z J) (term_source a z J) o d purpose
+      (term_code a z J d Value) (term_code b z J (depth_behind (is_operand a || is_operand b) d) Value)))
+      (length (binary_code (term_source b z J) (term_source a z J) o d purpose
+      (term_code a z J d Value) (term_code b z J (depth_behind (is_operand a || is_operand b) d) Value)))
+      (apply_operator o (value a z env J u) (value b z env J u))
+  binary_runs o a b z J d lets purpose u s sized nodes few le place fits_a fits_b h left right stands room =
+      let deep = depth_behind (is_operand a || is_operand b) d in
+      let ca = term_code a z J d Value in
+      let cb = term_code b z J deep Value in
+      let va = value a z env J u in
+      let vb = value b z env J u in
+      let more : d ≤ deep = behind_more (is_operand a || is_operand b) d in
+      sides_run (term_source b z J) (term_source a z J) o purpose z d deep lets va vb u ca cb s
+      (source_is b z J lets deep u sized nodes fits_b) (source_is a z J lets d u sized nodes fits_a) sized few le more
+      (λ e f. free_beside (is_operand a) (is_operand b) d (sym (found_same a z J) ∙ e)
+      (sym (found_same b z J) ∙ f) place) h stands room
+      (λ st2 l2. left J d s nodes le fits_a h st2 l2)
+      (λ t same st2 l2. right J deep t nodes (omega (arith, le, more)) fits_b
+      (still_holds env lets d u s t le h same) st2 l2)
+
+  -- the tests of an operator between two terms
+  sides_tests_run : (tally : Tally) (o : Operator) (a b : Term) (z : Sizes) (J : List ℕ) (d lets : ℕ) (u : NodeState)
+      (s : MachineState) → IsSized z env → All (λ j. j < z.nodes) J → 1 ≤ z.nodes → lets ≤ PLACES → lets ≤ d → d < PLACES
+      → SidesFit (is_shared o a b (length J)) (is_operand a || is_operand b) d
+      (λ e. Fits a z (length J + 1) lets e) (λ e. Fits b z (length J + 1) lets e) → Holds env lets u s
+      → ValueRuns a z lets u → ValueRuns b z lets u
+      → OverRuns tally d (sides_code tally o a b z J d (λ I e. term_code a z I e Value) (λ I e. term_code b z I e Value))
+      (tally_below tally z.nodes
+      (λ j. apply_operator o (value a z env (J ++ j ∷ []) u) (value b z env (J ++ j ∷ []) u)) (message_from z env)) s
+  sides_tests_run tally o a b z J d lets u s sized nodes some few le small fits h left right =
+      by (is_shared o a b (length J)) refl
+    where
+      A : ℕ → ℕ
+      A j = value a z env (J ++ j ∷ []) u
+
+      B : ℕ → ℕ
+      B j = value b z env (J ++ j ∷ []) u
+
+      more : (j : ℕ) → length J + 1 ≡ length (J ++ j ∷ [])
+      more j = omega (arith, length-append J (j ∷ []))
+
+      inner : (j : ℕ) → j < z.nodes → All (λ i. i < z.nodes) (J ++ j ∷ [])
+      inner j lt = All-push (λ i. i < z.nodes) J j nodes lt
+
+      left_fits : (j e : ℕ) → Fits a z (length J + 1) lets e → Fits a z (length (J ++ j ∷ [])) lets e
+      left_fits j e f = subst (λ (n : ℕ). Fits a z n lets e) (more j) f
+
+      right_fits : (j e : ℕ) → Fits b z (length J + 1) lets e → Fits b z (length (J ++ j ∷ [])) lets e
+      right_fits j e f = subst (λ (n : ℕ). Fits b z n lets e) (more j) f
+
+      code : Bool → List Insn
+      code shared = if shared
+          then shared_code tally d z.nodes o (term_code b z (J ++ 0 ∷ []) (d + 1) Value)
+          (λ j. term_code a z (J ++ j ∷ []) (d + 2) Value)
+          else tests_code tally d z.nodes (λ j. binary_code (term_source b z (J ++ j ∷ [])) (term_source a z (J ++ j ∷ []))
+          o (d + 1) (tally_test tally d) (term_code a z (J ++ j ∷ []) (d + 1) Value)
+          (term_code b z (J ++ j ∷ []) (depth_behind (is_operand a || is_operand b) (d + 1)) Value))
+
+      Fit : Bool → Type 0
+      Fit shared = SidesFit shared (is_operand a || is_operand b) d (λ e. Fits a z (length J + 1) lets e)
+          (λ e. Fits b z (length J + 1) lets e)
+
+      by : (shared : Bool) → is_shared o a b (length J) ≡ shared
+          → OverRuns tally d (code (is_shared o a b (length J)))
+          (tally_below tally z.nodes (λ j. apply_operator o (A j) (B j)) (message_from z env)) s
+      by true is =
+          let f : Fit true = subst Fit is fits in
+          let once : OverRuns tally d (code true)
+          (tally_below tally z.nodes (λ j. apply_operator o (A j) (B 0)) (message_from z env)) s =
+          shared_tests_run tally z d (B 0) o (term_code b z (J ++ 0 ∷ []) (d + 1) Value)
+          (λ j. term_code a z (J ++ j ∷ []) (d + 2) Value) A s sized f.0 h.framed
+          (λ t same st l. right (J ++ 0 ∷ []) (d + 1) t (inner 0 (omega (arith, some))) (omega (arith, le))
+          (right_fits 0 (d + 1) f.1) (still_holds env lets d u s t le h same) st l)
+          (λ j t lt same st l. left (J ++ j ∷ []) (d + 2) t (inner j lt) (omega (arith, le))
+          (left_fits j (d + 2) f.2) (still_holds env lets d u s t le h same) st l) in
+          let each : (j : ℕ) → B 0 ≡ B j = λ j. shared_value o a b z env J j u is in
+          let number : tally_below tally z.nodes (λ j. apply_operator o (A j) (B 0)) (message_from z env)
+          ≡ tally_below tally z.nodes (λ j. apply_operator o (A j) (B j)) (message_from z env) =
+          λ x. tally_below tally z.nodes (λ j. apply_operator o (A j) (each j x)) (message_from z env) in
+          subst (λ (shared : Bool). OverRuns tally d (code shared)
+          (tally_below tally z.nodes (λ j. apply_operator o (A j) (B j)) (message_from z env)) s) (sym is)
+          (subst (λ (v : ℕ). OverRuns tally d (code true) v s) number once)
+      by false is =
+          let f : Fit false = subst Fit is fits in
+          let found = is_operand a || is_operand b in
+          let test = λ (j : ℕ). binary_code (term_source b z (J ++ j ∷ [])) (term_source a z (J ++ j ∷ [])) o (d + 1)
+          (tally_test tally d) (term_code a z (J ++ j ∷ []) (d + 1) Value)
+          (term_code b z (J ++ j ∷ []) (depth_behind found (d + 1)) Value) in
+          let each : OverRuns tally d (code false)
+          (tally_below tally z.nodes (λ j. apply_operator o (A j) (B j)) (message_from z env)) s =
+          plain_tests_run tally z d test (λ j. apply_operator o (A j) (B j)) s sized small h.framed
+          (λ t same j w lt around st l.
+          binary_runs o a b z (J ++ j ∷ []) (d + 1) lets (tally_test tally d) u w sized (inner j lt) few (omega (arith, le))
+          f.0 (left_fits j (d + 1) f.1) (right_fits j (depth_behind found (d + 1)) f.2)
+          (still_holds env lets d u s w le h
+          (same_then d s t w same (same_around d (d + 1) t w (omega arith) around))) left right st l) in
+          subst (λ (shared : Bool). OverRuns tally d (code shared)
+          (tally_below tally z.nodes (λ j. apply_operator o (A j) (B j)) (message_from z env)) s) (sym is) each
 
   -- ---- sorted numbers
 
@@ -1852,20 +2098,10 @@ module _ (program : List Insn) (env : Setting) (last : ℕ) (solid : (k : ℕ) �
       (source_is a z J lets d u sized nodes fits) sized st l
       (λ st2 l2. term_runs a z J d lets Value u s sized nodes few le fits h st2 (omega (arith, l2))))
   term_runs (Binary' o p a q b) z J d lets purpose u s sized nodes few le fits h stands room =
-      let deep = depth_behind (is_operand a || is_operand b) d in
-      let ca = term_code a z J d Value in
-      let cb = term_code b z J deep Value in
-      let va = value a z env J u in
-      let vb = value b z env J u in
-      let more : d ≤ deep = behind_more (is_operand a || is_operand b) d in
-      sides_run (term_source b z J) (term_source a z J) o purpose z d deep lets va vb u ca cb s
-      (source_is b z J lets deep u sized nodes fits.2) (source_is a z J lets d u sized nodes fits.1) sized few le more
-      (λ e f. free_beside (is_operand a) (is_operand b) d (sym (found_same a z J) ∙ e)
-      (sym (found_same b z J) ∙ f) fits.0) h
+      binary_runs o a b z J d lets purpose u s sized nodes few le fits.0 fits.1 fits.2 h
+      (λ I e w all more fit hold st l. term_runs a z I e lets Value u w sized all few more fit hold st (omega (arith, l)))
+      (λ I e w all more fit hold st l. term_runs b z I e lets Value u w sized all few more fit hold st (omega (arith, l)))
       stands room
-      (λ st2 l2. term_runs a z J d lets Value u s sized nodes few le fits.1 h st2 (omega (arith, l2)))
-      (λ t same st2 l2. term_runs b z J deep lets Value u t sized nodes few (omega (arith, le, more)) fits.2
-      (still_holds env lets d u s t le h same) st2 (omega (arith, l2)))
   term_runs (Logical' c p a q b) z J d lets purpose u s sized nodes few le fits h stands room =
       let va = value a z env J u in
       let vb = value b z env J u in
@@ -1904,28 +2140,62 @@ module _ (program : List Insn) (env : Setting) (last : ℕ) (solid : (k : ℕ) �
       (term_runs b z J d lets Value u w sized nodes few le fits.2 (still_holds env lets d u s w le h same) st2
       (omega (arith, l2))))
       (λ x to k. has_at d v s x to k))
+  term_runs (Count' p (Binary' o q a r b)) z J d lets purpose u s sized nodes few le fits h stands room =
+      let tests = sides_code HowMany o a b z J d (λ I e. term_code a z I e Value) (λ I e. term_code b z I e Value) in
+      let holds = λ (j : ℕ). apply_operator o (value a z env (J ++ j ∷ []) u) (value b z env (J ++ j ∷ []) u) in
+      let v = tally_below HowMany z.nodes holds (message_from z env) in
+      by_value_runs purpose (tally_code HowMany d tests) d v s stands room
+      (λ st l. tally_runs HowMany d v tests s fits.0
+      (tally_small HowMany z.nodes holds (message_from z env) (omega (arith, nodes_few z sized))) h.framed st l
+      (sides_tests_run HowMany o a b z J d lets u s sized nodes (some_nodes z sized) few le fits.0 fits.1 h
+      (λ I e w all more fit hold st2 l2. term_runs a z I e lets Value u w sized all few more fit hold st2
+      (omega (arith, l2)))
+      (λ I e w all more fit hold st2 l2. term_runs b z I e lets Value u w sized all few more fit hold st2
+      (omega (arith, l2)))))
   term_runs (Count' p t) z J d lets purpose u s sized nodes few le fits h stands room =
       let test = λ (j : ℕ). term_code t z (J ++ j ∷ []) (d + 1) (tally_test HowMany d) in
+      let tests = tests_code HowMany d z.nodes test in
       let holds = λ (j : ℕ). value t z env (J ++ j ∷ []) u in
-      by_value_runs purpose (tally_code HowMany d z.nodes test) d
-      (tally_below HowMany z.nodes holds (message_from z env)) s stands room
-      (λ st l. tally_runs HowMany z d test holds s sized fits.0 h.framed st l
-      (λ j w lt same st2 l2.
+      let v = tally_below HowMany z.nodes holds (message_from z env) in
+      by_value_runs purpose (tally_code HowMany d tests) d v s stands room
+      (λ st l. tally_runs HowMany d v tests s fits.0
+      (tally_small HowMany z.nodes holds (message_from z env) (omega (arith, nodes_few z sized))) h.framed st l
+      (plain_tests_run HowMany z d test holds s sized fits.0 h.framed
+      (λ w same j x lt around st2 l2.
       let more : length J + 1 ≡ length (J ++ j ∷ []) = omega (arith, length-append J (j ∷ [])) in
-      term_runs t z (J ++ j ∷ []) (d + 1) lets (tally_test HowMany d) u w sized
+      term_runs t z (J ++ j ∷ []) (d + 1) lets (tally_test HowMany d) u x sized
       (All-push (λ i. i < z.nodes) J j nodes lt) few (omega (arith, le))
-      (subst (λ (n : ℕ). Fits t z n lets (d + 1)) more fits.1) (still_holds env lets d u s w le h same) st2 l2))
+      (subst (λ (n : ℕ). Fits t z n lets (d + 1)) more fits.1)
+      (still_holds env lets d u s x le h
+      (same_then d s w x same (same_around d (d + 1) w x (omega arith) around))) st2 l2)))
+  term_runs (Least' p (Binary' o q a r b)) z J d lets purpose u s sized nodes few le fits h stands room =
+      let tests = sides_code LeastMessage o a b z J d (λ I e. term_code a z I e Value) (λ I e. term_code b z I e Value) in
+      let holds = λ (j : ℕ). apply_operator o (value a z env (J ++ j ∷ []) u) (value b z env (J ++ j ∷ []) u) in
+      let v = tally_below LeastMessage z.nodes holds (message_from z env) in
+      by_value_runs purpose (tally_code LeastMessage d tests) d v s stands room
+      (λ st l. tally_runs LeastMessage d v tests s fits.0
+      (tally_small LeastMessage z.nodes holds (message_from z env) (omega (arith, nodes_few z sized))) h.framed st l
+      (sides_tests_run LeastMessage o a b z J d lets u s sized nodes (some_nodes z sized) few le fits.0 fits.1 h
+      (λ I e w all more fit hold st2 l2. term_runs a z I e lets Value u w sized all few more fit hold st2
+      (omega (arith, l2)))
+      (λ I e w all more fit hold st2 l2. term_runs b z I e lets Value u w sized all few more fit hold st2
+      (omega (arith, l2)))))
   term_runs (Least' p t) z J d lets purpose u s sized nodes few le fits h stands room =
       let test = λ (j : ℕ). term_code t z (J ++ j ∷ []) (d + 1) (tally_test LeastMessage d) in
+      let tests = tests_code LeastMessage d z.nodes test in
       let holds = λ (j : ℕ). value t z env (J ++ j ∷ []) u in
-      by_value_runs purpose (tally_code LeastMessage d z.nodes test) d
-      (tally_below LeastMessage z.nodes holds (message_from z env)) s stands room
-      (λ st l. tally_runs LeastMessage z d test holds s sized fits.0 h.framed st l
-      (λ j w lt same st2 l2.
+      let v = tally_below LeastMessage z.nodes holds (message_from z env) in
+      by_value_runs purpose (tally_code LeastMessage d tests) d v s stands room
+      (λ st l. tally_runs LeastMessage d v tests s fits.0
+      (tally_small LeastMessage z.nodes holds (message_from z env) (omega (arith, nodes_few z sized))) h.framed st l
+      (plain_tests_run LeastMessage z d test holds s sized fits.0 h.framed
+      (λ w same j x lt around st2 l2.
       let more : length J + 1 ≡ length (J ++ j ∷ []) = omega (arith, length-append J (j ∷ [])) in
-      term_runs t z (J ++ j ∷ []) (d + 1) lets (tally_test LeastMessage d) u w sized
+      term_runs t z (J ++ j ∷ []) (d + 1) lets (tally_test LeastMessage d) u x sized
       (All-push (λ i. i < z.nodes) J j nodes lt) few (omega (arith, le))
-      (subst (λ (n : ℕ). Fits t z n lets (d + 1)) more fits.1) (still_holds env lets d u s w le h same) st2 l2))
+      (subst (λ (n : ℕ). Fits t z n lets (d + 1)) more fits.1)
+      (still_holds env lets d u s x le h
+      (same_then d s w x same (same_around d (d + 1) w x (omega arith) around))) st2 l2)))
   term_runs (Sorted' p k q e) z J d lets purpose u s sized nodes few le fits h stands room =
       let place = constant_number k z J in
       let item = λ (j : ℕ). term_code e z (J ++ j ∷ []) (d + j) Value in
@@ -1944,3 +2214,24 @@ module _ (program : List Insn) (env : Setting) (last : ℕ) (solid : (k : ℕ) �
       (subst (λ (n : ℕ). Fits e z n lets (d + j)) more
       (fits_less e z (length J + 1) lets (d + j) (d + z.nodes) (omega (arith, lt)) fits.3))
       (still_holds env lets d u s w le h same) st2 (omega (arith, l2)))))
+
+  -- the tests of a tally over the nodes at which a term holds
+  pub over_runs : (tally : Tally) (t : Term) (z : Sizes) (J : List ℕ) (d lets : ℕ) (u : NodeState) (s : MachineState)
+      → IsSized z env → All (λ j. j < z.nodes) J → lets ≤ PLACES → lets ≤ d → TallyFits t z (length J) lets d
+      → Holds env lets u s
+      → OverRuns tally d (over_code tally t z J d)
+      (tally_below tally z.nodes (λ j. value t z env (J ++ j ∷ []) u) (message_from z env)) s
+  over_runs tally (Binary' o q a r b) z J d lets u s sized nodes few le fits h =
+      sides_tests_run tally o a b z J d lets u s sized nodes (some_nodes z sized) few le fits.0 fits.1 h
+      (λ I e w all more fit hold st l. term_runs a z I e lets Value u w sized all few more fit hold st (omega (arith, l)))
+      (λ I e w all more fit hold st l. term_runs b z I e lets Value u w sized all few more fit hold st (omega (arith, l)))
+  over_runs tally t z J d lets u s sized nodes few le fits h =
+      let test = λ (j : ℕ). term_code t z (J ++ j ∷ []) (d + 1) (tally_test tally d) in
+      plain_tests_run tally z d test (λ j. value t z env (J ++ j ∷ []) u) s sized fits.0 h.framed
+      (λ w same j x lt around st2 l2.
+      let more : length J + 1 ≡ length (J ++ j ∷ []) = omega (arith, length-append J (j ∷ [])) in
+      term_runs t z (J ++ j ∷ []) (d + 1) lets (tally_test tally d) u x sized
+      (All-push (λ i. i < z.nodes) J j nodes lt) few (omega (arith, le))
+      (subst (λ (n : ℕ). Fits t z n lets (d + 1)) more fits.1)
+      (still_holds env lets d u s x le h
+      (same_then d s w x same (same_around d (d + 1) w x (omega arith) around))) st2 l2)

@@ -44,15 +44,16 @@ use Rattle.rule_syntax.specs.declared.syntax.Statement.{Statement}
 use Rattle.rule_syntax.specs.declared.syntax.Statement.TheVariants.{Nothing, Then', Let', Assign, If', For', SendAll, SendTo}
 use Rattle.rule_nodes.specs.Operands.{is_constant, constant_number, is_local, is_operand, is_steady, depth_behind, term_source}
 use Rattle.rule_nodes.specs.Fits.{HasPlace, Fits, TargetFits, AssignmentFits, BlockFits}
-use Rattle.rule_nodes.specs.Code.{number_place, fetch_code, keep_code, copy, set_node, cond_of, jump_at, tallied_code, tally_test, term_code, stored_code, passed_code, idle_code, send_to_constant_code, assign_code, place_code, word_code, set_code, given_code, alu_op_of, change_place, changing_insn, one_code, also_code, assignment_code, get_code, set_number, send_code, send_codes, send_all_code, receiver_code, send_to_code, each_code, is_nothing, block_code, tail_code, rule_code}
+use Rattle.rule_nodes.specs.Code.{number_place, fetch_code, keep_code, copy, set_node, cond_of, jump_at, tallied_code, term_code, over_code, stored_code, passed_code, idle_code, send_to_constant_code, assign_code, place_code, word_code, set_code, given_code, alu_op_of, change_place, changing_insn, one_code, also_code, assignment_code, get_code, set_number, send_code, send_codes, send_all_code, receiver_code, send_to_code, each_code, is_nothing, block_code, tail_code, rule_code}
 use Rattle.rule_nodes.proofs.Typing.{memory_place, word, written_at, state, known, plain, valued, proper, within, proper_known, some_word, into, Grows, grows_none, grows_one, placed_in, register_kind, short, Typing, typed_then, typed_as, typed_none, one_on, one_fork, number_typed, fetch_place, keep_place, fetch_typed, keep_typed, change_typed, AllSound, seen}
 use Rattle.rule_nodes.proofs.Whole.{all_begin, rule_length, ones_rule}
 use Rattle.rule_nodes.specs.Ends.{AreSizes}
 use Rattle.rule_nodes.proofs.Places.{IsPlace, place_is, not_frame}
 use Rattle.rule_nodes.proofs.Sources.{is_found}
+use Rattle.rule_nodes.proofs.Shared.{count_fits, least_fits}
 use Rattle.rule_nodes.proofs.TermRuns.{behind_more, behind_few, found_same}
 use Rattle.rule_nodes.proofs.Blocks.{computed_place}
-use Rattle.rule_nodes.proofs.TypedTerms.{known_less, covers_less, left_imm, typed_seq, typed_at, if_typed, some_node, proper_node, node_in_r0, not_above_node, name_typed, node_typed, load_typed, register_typed, alter_typed, IsThere, source_there, TestsTyped, tallied_typed, term_typed}
+use Rattle.rule_nodes.proofs.TypedTerms.{known_less, covers_less, left_imm, typed_seq, typed_at, if_typed, some_node, proper_node, node_in_r0, not_above_node, name_typed, node_typed, load_typed, register_typed, alter_typed, IsThere, source_there, OverTyped, tallied_typed, over_typed, term_typed}
 
 module _ (program : List Insn) (shape : Extent) (last : ℕ) (solid : (k : ℕ) → k ≤ last → BeginsAt program k) where
   abbrev T : ℕ → List Insn → (Table → Type 0) → (Table → Type 0) → Type 0
@@ -737,19 +738,18 @@ module _ (program : List Insn) (shape : Extent) (last : ℕ) (solid : (k : ℕ) 
       (λ q. computed_place (is_operand e) d (sym (found_same e z J) ∙ q) free) fits f l) k_fits le
 
   -- a tally that stays in the next place, and what follows
-  tally_let_typed : (tally : Tally) (d slot n : ℕ) (test : ℕ → List Insn) (back : List Insn) → n ≡ shape.nodes
-      → n ≤ 64 → d < PLACES → slot + length (tallied_code tally d n test ++ back) ≤ last
-      → TestsTyped program shape last solid tally d test
+  tally_let_typed : (tally : Tally) (d slot : ℕ) (tests back : List Insn) → d < PLACES
+      → slot + length (tallied_code tally d tests ++ back) ≤ last
+      → ((to : ℕ) → OverTyped program shape last solid d to tests)
       → ((to : ℕ) → to + length back ≤ last → BlockTyped (d + 1) to back)
-      → BlockTyped d slot (tallied_code tally d n test ++ back)
-  tally_let_typed tally d slot n test back same few small le each next =
-      let front = tallied_code tally d n test in
+      → BlockTyped d slot (tallied_code tally d tests ++ back)
+  tally_let_typed tally d slot tests back small le each next =
+      let front = tallied_code tally d tests in
       let len : length (front ++ back) ≡ length front + length back = length-append front back in
       let p1 = slot + length front in
       let end = slot + length (front ++ back) in
       let e : p1 + length back ≡ end = omega (arith, len) in
-      let c = tallied_typed program shape last solid tally d slot n test small (omega (arith, same))
-      (omega (arith, same, few)) (omega (arith, len, le)) each in
+      let c = tallied_typed program shape last solid tally d slot tests small (omega (arith, len, le)) each in
       let r = typed_at program shape last solid p1 (p1 + length back) end back (C (plain (d + 1)) p1)
       (plain (d + 1)) e (next p1 (omega (arith, len, le))) in
       let r1 = typed_as program shape last solid p1 back (C (plain (d + 1)) p1) (C (plain (d + 1)) end)
@@ -778,20 +778,14 @@ module _ (program : List Insn) (shape : Extent) (last : ℕ) (solid : (k : ℕ) 
       (block_typed a z J d slot same some few room small fits.0 (omega (arith, len, le)))
       (block_typed b z J d p1 same some few room small fits.1 (omega (arith, len, le))))
   block_typed (Let' (Count' q t) p rest) z J d slot same some few room small fits le =
-      let test = λ (j : ℕ). term_code t z (J ++ j ∷ []) (d + 1) (tally_test HowMany d) in
-      tally_let_typed HowMany d slot z.nodes test (block_code rest z J (d + 1)) same few fits.0 le
-      (λ j to l.
-      let more : length J + 1 ≡ length (J ++ j ∷ []) = omega (arith, length-append J (j ∷ [])) in
-      term_typed program shape last solid t z (J ++ j ∷ []) (d + 1) d (tally_test HowMany d) to same some few room
-      (omega arith) (omega (arith, fits.0)) (subst (λ (n : ℕ). Fits t z n d (d + 1)) more fits.1.1) l)
+      tally_let_typed HowMany d slot (over_code HowMany t z J d) (block_code rest z J (d + 1)) fits.0 le
+      (λ to. over_typed program shape last solid HowMany t z J d d to same some few room (omega arith)
+      (count_fits t q z (length J) d d fits.1))
       (λ to l. block_typed rest z J (d + 1) to same some few room (omega (arith, fits.0)) fits.2 l)
   block_typed (Let' (Least' q t) p rest) z J d slot same some few room small fits le =
-      let test = λ (j : ℕ). term_code t z (J ++ j ∷ []) (d + 1) (tally_test LeastMessage d) in
-      tally_let_typed LeastMessage d slot z.nodes test (block_code rest z J (d + 1)) same few fits.0 le
-      (λ j to l.
-      let more : length J + 1 ≡ length (J ++ j ∷ []) = omega (arith, length-append J (j ∷ [])) in
-      term_typed program shape last solid t z (J ++ j ∷ []) (d + 1) d (tally_test LeastMessage d) to same some few room
-      (omega arith) (omega (arith, fits.0)) (subst (λ (n : ℕ). Fits t z n d (d + 1)) more fits.1.1) l)
+      tally_let_typed LeastMessage d slot (over_code LeastMessage t z J d) (block_code rest z J (d + 1)) fits.0 le
+      (λ to. over_typed program shape last solid LeastMessage t z J d d to same some few room (omega arith)
+      (least_fits t q z (length J) d d fits.1))
       (λ to l. block_typed rest z J (d + 1) to same some few room (omega (arith, fits.0)) fits.2 l)
   block_typed (Let' e p rest) z J d slot same some few room small fits le =
       let memory = λ (x : Source) (there : IsThere x d z.memory). subst (λ (m : ℕ). IsThere x d m) room there in

@@ -1,5 +1,5 @@
 -- The code of terms is typed.
-use Rattle.std.proofs.Common.{◌≡◌, ℕ, zero, suc, ◌+◌, ◌-◌, ◌*◌, ◌^◌, ◌%◌, ◌<◌, ◌≤◌, ◌==◌, nat_lt, Bool, true, false, not, ◌||◌, min, ◌⊎◌, List, [], ◌∷◌, ◌++◌, length, Option, Some, None, ℤ, pos, slice_index, refl, sym, ap, ◌∙◌, arith, subst, inl, inr, length-append}
+use Rattle.std.proofs.Common.{if◌then◌else◌, ◌≡◌, ℕ, zero, suc, ◌+◌, ◌-◌, ◌*◌, ◌^◌, ◌%◌, ◌<◌, ◌≤◌, ◌==◌, nat_lt, Bool, true, false, not, ◌||◌, min, ◌⊎◌, List, [], ◌∷◌, ◌++◌, length, Option, Some, None, ℤ, pos, slice_index, refl, sym, ap, ◌∙◌, arith, subst, inl, inr, length-append}
 use Rattle.std.proofs.lemmas.Option.{same_Some, none-some}
 use Rattle.std.proofs.lemmas.Bool.{cases_lt, lt-ltb, le-ltb, ltb-true, ne_eqb, cases_Bool, cond-true, cond-false}
 use Rattle.std.proofs.Math.Nat.{mod-eq_of_lt}
@@ -52,9 +52,9 @@ use Rattle.rule_nodes.specs.declared.numbers.Source.TheVariants.{Constant, FromL
 use Rattle.rule_syntax.specs.declared.syntax.Term.{Term}
 use Rattle.rule_syntax.specs.declared.syntax.Term.TheVariants.{Number as Numeral, Nodes, Faults, Modulus, Me, Coin, LoopNode, Local, Word, Message', Binary', Logical', Not', Choice', Count', Least', Sorted'}
 use Rattle.rule_nodes.specs.Meaning.{apply_operator}
-use Rattle.rule_nodes.specs.Operands.{is_constant, is_operand, constant_number, depth_behind, fetched_source, term_source}
-use Rattle.rule_nodes.specs.Fits.{Fits}
-use Rattle.rule_nodes.specs.Code.{number_place, fetch_code, keep_code, start_code, increment_code, place_operand, load_place, set_number, copy, alu_op_of, cond_of, jump_on, jump_by, jump_at, beyond_purpose, truth_code, by_value, by_test, get_code, operand_code, load_code, jump_register, by_operator, left_code, right_code, beside_code, binary_code, message_by, mirror, set_node, choice_code, if_code, decides, both_far, both_code, message_code, lower_code, tally_start, tally_step, tally_codes, tallied_code, tally_code, tally_test, items_code, exchange_code, exchange_codes, pass_code, pass_codes, nearer_end, passes_before, sorted_code, term_code}
+use Rattle.rule_nodes.specs.Operands.{is_constant, is_operand, is_shared, constant_number, depth_behind, fetched_source, term_source}
+use Rattle.rule_nodes.specs.Fits.{HasPlace, SidesFit, Fits, TallyFits}
+use Rattle.rule_nodes.specs.Code.{number_place, fetch_code, keep_code, start_code, increment_code, place_operand, load_place, set_number, copy, alu_op_of, cond_of, jump_on, jump_by, jump_at, beyond_purpose, truth_code, by_value, by_test, get_code, operand_code, load_code, jump_register, by_operator, left_code, right_code, beside_code, binary_code, message_by, mirror, set_node, choice_code, if_code, decides, both_far, both_code, message_code, lower_code, tally_start, tally_step, tests_code, tallied_code, tally_code, tally_test, shared_code, sides_code, items_code, exchange_code, exchange_codes, pass_code, pass_codes, nearer_end, passes_before, sorted_code, term_code, over_code}
 use Rattle.rule_nodes.proofs.Places.{IsPlace, place_is, not_frame}
 use Rattle.rule_nodes.proofs.Sources.{is_found}
 use Rattle.rule_nodes.proofs.TallyLaws.{steps_alike}
@@ -1380,32 +1380,29 @@ module _ (program : List Insn) (shape : Extent) (last : ℕ) (solid : (k : ℕ) 
       typed_at slot p3 (slot + length (left ++ (jump ++ keep))) (left ++ (jump ++ keep)) (C S slot) S e
       (typed_seq slot p1 left (jump ++ keep) (C S slot) (C K p1) (C S p3) refl a fg1)
 
-  step_typed : (tally : Tally) (d j slot : ℕ) → d < PLACES → j < shape.nodes → shape.nodes ≤ 64
+  step_typed : (tally : Tally) (d e j slot : ℕ) → d < e → e ≤ PLACES → j < shape.nodes → shape.nodes ≤ 64
       → slot + length (tally_step tally (number_place d) j) ≤ last
-      → T slot (tally_step tally (number_place d) j) (C (plain (d + 1)) slot)
-      (C (plain (d + 1)) (slot + length (tally_step tally (number_place d) j)))
-  step_typed HowMany d j slot small node most le =
-      increment_typed (number_place d) d (d + 1) slot refl (omega arith) (omega (arith, small)) le
-  step_typed LeastMessage d j slot small node most le =
-      lower_typed (number_place d) d (d + 1) j slot refl (omega arith) (omega (arith, small)) node most le
+      → T slot (tally_step tally (number_place d) j) (C (plain e) slot)
+      (C (plain e) (slot + length (tally_step tally (number_place d) j)))
+  step_typed HowMany d e j slot below few node most le = increment_typed (number_place d) d e slot refl below few le
+  step_typed LeastMessage d e j slot below few node most le =
+      lower_typed (number_place d) d e j slot refl below few node most le
 
-  -- the tests of a tally
-  abbrev pub TestsTyped : Tally → ℕ → (ℕ → List Insn) → Type 0
-  TestsTyped tally d test = (j to : ℕ) → to + length (test j) + length (tally_step tally (number_place d) 0) ≤ last
-      → TermTyped (tally_test tally d) (d + 1) to (test j)
+  -- the tests of a tally in place d, at depth e
+  abbrev pub TestsTyped : Tally → ℕ → ℕ → (ℕ → List Insn) → Type 0
+  TestsTyped tally d e test = (j to : ℕ) → to + length (test j) + length (tally_step tally (number_place d) 0) ≤ last
+      → TermTyped (tally_test tally d) e to (test j)
 
-  tallies_typed : (tally : Tally) (d slot n : ℕ) (test : ℕ → List Insn) → d < PLACES → n ≤ shape.nodes
-      → shape.nodes ≤ 64 → slot + length (tally_codes (tally_step tally (number_place d)) test n) ≤ last
-      → TestsTyped tally d test
-      → T slot (tally_codes (tally_step tally (number_place d)) test n) (C (plain (d + 1)) slot)
-      (C (plain (d + 1)) (slot + length (tally_codes (tally_step tally (number_place d)) test n)))
-  tallies_typed tally d slot zero test small within most le each =
-      let e : slot ≡ slot + 0 = omega arith in
-      typed_at slot slot (slot + 0) [] (C (plain (d + 1)) slot) (plain (d + 1)) e
-      (typed_none program shape last solid slot (C (plain (d + 1)) slot))
-  tallies_typed tally d slot (suc n) test small within most le each =
+  tests_typed : (tally : Tally) (d e slot n : ℕ) (test : ℕ → List Insn) → d < e → e ≤ PLACES → n ≤ shape.nodes
+      → shape.nodes ≤ 64 → slot + length (tests_code tally d n test) ≤ last → TestsTyped tally d e test
+      → T slot (tests_code tally d n test) (C (plain e) slot) (C (plain e) (slot + length (tests_code tally d n test)))
+  tests_typed tally d e slot zero test below few within most le each =
+      let same : slot ≡ slot + 0 = omega arith in
+      typed_at slot slot (slot + 0) [] (C (plain e) slot) (plain e) same
+      (typed_none program shape last solid slot (C (plain e) slot))
+  tests_typed tally d e slot (suc n) test below few within most le each =
       let steps = tally_step tally (number_place d) in
-      let front = tally_codes steps test n in
+      let front = tests_code tally d n test in
       let back = test n ++ steps n in
       let len : length (front ++ back) ≡ length front + (length (test n) + length (steps n)) = omega
       (arith, length-append front back, length-append (test n) (steps n)) in
@@ -1413,46 +1410,82 @@ module _ (program : List Insn) (shape : Extent) (last : ℕ) (solid : (k : ℕ) 
       let p1 = slot + length front in
       let p2 = p1 + length (test n) in
       let p3 = p2 + length (steps n) in
-      let S = plain (d + 1) in
-      let f = tallies_typed tally d slot n test small (omega (arith, within)) most (omega (arith, len, le)) each in
+      let S = plain e in
+      let f = tests_typed tally d e slot n test below few (omega (arith, within)) most (omega (arith, len, le)) each in
       let e1 : p2 + length (steps 0) ≡ p3 = omega (arith, alike) in
       let t = subst (λ (x : ℕ). T p1 (test n) (C S p1) (λ table. C S p2 table × C S x table)) e1
       (each n p1 (omega (arith, len, le, alike))) in
-      let a = step_typed tally d n p2 small (omega (arith, within)) most (omega (arith, len, le)) in
+      let a = step_typed tally d e n p2 below few (omega (arith, within)) most (omega (arith, len, le)) in
       let ta = typed_then program shape last solid p1 p2 (test n) (steps n) (C S p1) (λ table. C S p2 table × C S p3 table)
       (C S p2) (C S p3) refl t a (λ table o asks. (o, asks)) in
       let ta1 = typed_as program shape last solid p1 back (λ table. C S p1 table × C S p2 table) (C S p3) (C S p1)
       (C S p3) (λ table h. h.0) (λ table h. h) ta in
-      let e : p3 ≡ slot + length (front ++ back) = omega (arith, len) in
-      typed_at slot p3 (slot + length (front ++ back)) (front ++ back) (C S slot) S e
+      let end : p3 ≡ slot + length (front ++ back) = omega (arith, len) in
+      typed_at slot p3 (slot + length (front ++ back)) (front ++ back) (C S slot) S end
       (typed_seq slot p1 front back (C S slot) (C S p1) (C S p3) refl f ta1)
 
+  -- the tests of a tally that has begun in place d
+  abbrev pub OverTyped : ℕ → ℕ → List Insn → Type 0
+  OverTyped d slot tests = slot + length tests ≤ last
+      → T slot tests (C (plain (d + 1)) slot) (C (plain (d + 1)) (slot + length tests))
+
+  plain_tests_typed : (tally : Tally) (d slot n : ℕ) (test : ℕ → List Insn) → d < PLACES → n ≤ shape.nodes
+      → shape.nodes ≤ 64 → TestsTyped tally d (d + 1) test → OverTyped d slot (tests_code tally d n test)
+  plain_tests_typed tally d slot n test small within most each le =
+      tests_typed tally d (d + 1) slot n test (omega arith) (omega (arith, small)) within most le each
+
+  -- the right number is kept in place d + 1
+  shared_tests_typed : (tally : Tally) (d slot n : ℕ) (o : Operator) (right : List Insn) (left : ℕ → List Insn)
+      → d + 1 < PLACES → n ≤ shape.nodes → shape.nodes ≤ 64
+      → ((to : ℕ) → to + length right ≤ last → TermTyped Value (d + 1) to right)
+      → ((j to : ℕ) → to + length (left j) ≤ last → TermTyped Value (d + 2) to (left j))
+      → OverTyped d slot (shared_code tally d n o right left)
+  shared_tests_typed tally d slot n o right left small within most first second le =
+      let test = λ (j : ℕ). right_code o (FromLocal (d + 1)) (tally_test tally d) (left j) in
+      let tests = tests_code tally d n test in
+      let whole = shared_code tally d n o right left in
+      let len : length whole ≡ length right + (1 + length tests) = omega
+      (arith, length-append right (keep_code (number_place (d + 1)) ∷ tests)) in
+      let p = slot + length right + 1 in
+      let end : p + length tests ≡ slot + length whole = omega (arith, len) in
+      let deep : d + 2 ≡ d + 1 + 1 = omega arith in
+      let t = tests_typed tally d (d + 2) p n test (omega arith) (omega (arith, small)) within most (omega (arith, len, le))
+      (λ j to l. right_typed o (FromLocal (d + 1)) (tally_test tally d) (d + 2) (d + 2) to (left j) refl (omega arith)
+      (omega arith) (omega (arith, small)) l (λ k. second j to k)) in
+      let t1 = subst (λ (e : ℕ). T p tests (C (plain e) p) (C (plain (d + 2)) (p + length tests))) deep t in
+      let t2 = typed_as program shape last solid p tests (C (plain (d + 1 + 1)) p) (C (plain (d + 2)) (p + length tests))
+      (C (plain (d + 1 + 1)) p) (C (plain (d + 1)) (p + length tests)) (λ table h. h)
+      (λ table h. subst (λ (e : ℕ). C (plain e) (p + length tests) table) (sym deep)
+      (covers_less table (plain (d + 1 + 1)) (plain (d + 1)) (p + length tests) (known_less (d + 1) Unset Unset Unset) h))
+      t1 in
+      let t3 = typed_at p (p + length tests) (slot + length whole) tests (C (plain (d + 1 + 1)) p) (plain (d + 1)) end t2 in
+      kept_typed (d + 1) slot right tests (C (plain (d + 1)) (slot + length whole)) small le (λ k. first slot k) t3
+
   -- a tally that stays in the next place
-  pub tallied_typed : (tally : Tally) (d slot n : ℕ) (test : ℕ → List Insn) → d < PLACES → n ≤ shape.nodes
-      → shape.nodes ≤ 64 → slot + length (tallied_code tally d n test) ≤ last → TestsTyped tally d test
-      → T slot (tallied_code tally d n test) (C (plain d) slot)
-      (C (plain (d + 1)) (slot + length (tallied_code tally d n test)))
-  tallied_typed tally d slot n test small within most le each =
-      let codes = tally_codes (tally_step tally (number_place d)) test n in
+  pub tallied_typed : (tally : Tally) (d slot : ℕ) (tests : List Insn) → d < PLACES
+      → slot + length (tallied_code tally d tests) ≤ last → ((to : ℕ) → OverTyped d to tests)
+      → T slot (tallied_code tally d tests) (C (plain d) slot)
+      (C (plain (d + 1)) (slot + length (tallied_code tally d tests)))
+  tallied_typed tally d slot tests small le each =
       let p2 = slot + 1 in
-      let end = slot + length (tallied_code tally d n test) in
+      let end = slot + length (tallied_code tally d tests) in
       let b = begin_typed program shape last solid d (tally_start tally) slot small (omega (arith, le)) in
-      let e : p2 + length codes ≡ end = omega arith in
-      let c = typed_at p2 (p2 + length codes) end codes (C (plain (d + 1)) p2) (plain (d + 1)) e
-      (tallies_typed tally d p2 n test small within most (omega (arith, le)) each) in
-      typed_seq slot p2 (start_code (number_place d) (tally_start tally) ∷ []) codes (C (plain d) slot)
+      let e : p2 + length tests ≡ end = omega arith in
+      let c = typed_at p2 (p2 + length tests) end tests (C (plain (d + 1)) p2) (plain (d + 1)) e
+      (each p2 (omega (arith, le))) in
+      typed_seq slot p2 (start_code (number_place d) (tally_start tally) ∷ []) tests (C (plain d) slot)
       (C (plain (d + 1)) p2) (C (plain (d + 1)) end) refl b c
 
-  tally_typed : (tally : Tally) (d slot n : ℕ) (test : ℕ → List Insn) → d < PLACES → n ≤ shape.nodes
-      → shape.nodes ≤ 64 → slot + length (tally_code tally d n test) ≤ last → TestsTyped tally d test
-      → TermTyped Value d slot (tally_code tally d n test)
-  tally_typed tally d slot n test small within most le each =
-      let codes = tallied_code tally d n test in
+  tally_typed : (tally : Tally) (d slot : ℕ) (tests : List Insn) → d < PLACES
+      → slot + length (tally_code tally d tests) ≤ last → ((to : ℕ) → OverTyped d to tests)
+      → TermTyped Value d slot (tally_code tally d tests)
+  tally_typed tally d slot tests small le each =
+      let codes = tallied_code tally d tests in
       let last_one = fetch_code R0 (number_place d) ∷ [] in
       let len : length (codes ++ last_one) ≡ length codes + 1 = length-append codes last_one in
       let p3 = slot + length codes in
       let end = slot + length (codes ++ last_one) in
-      let c = tallied_typed tally d slot n test small within most (omega (arith, len, le)) each in
+      let c = tallied_typed tally d slot tests small (omega (arith, len, le)) each in
       let f = fetch_typed program shape last solid d (d + 1) Unset p3 (omega arith) (omega (arith, small)) tt
       (omega (arith, len, le)) in
       let e : p3 + 1 ≡ end = omega (arith, len) in
@@ -1651,6 +1684,85 @@ module _ (program : List Insn) (shape : Extent) (last : ℕ) (solid : (k : ℕ) 
       ] in
       whole le
 
+  -- the typing of a term for its number, in any loops and at any depth
+  abbrev ValueTyped : Term → Sizes → ℕ → Type 0
+  ValueTyped t z lets = (I : List ℕ) (e to : ℕ) → lets ≤ e → e ≤ PLACES → Fits t z (length I) lets e
+      → to + length (term_code t z I e Value) ≤ last → TermTyped Value e to (term_code t z I e Value)
+
+  -- an operator between two terms
+  binary_typed : (o : Operator) (a b : Term) (z : Sizes) (J : List ℕ) (d lets : ℕ) (purpose : Purpose) (slot : ℕ)
+      → z.memory ≡ shape.memory → lets ≤ d → d ≤ PLACES
+      → HasPlace (is_operand a || is_operand b) d → Fits a z (length J) lets d
+      → Fits b z (length J) lets (depth_behind (is_operand a || is_operand b) d)
+      → ValueTyped a z lets → ValueTyped b z lets
+      → slot + length (binary_code (term_source b z J) (term_source a z J) o d purpose
+      (term_code a z J d Value) (term_code b z J (depth_behind (is_operand a || is_operand b) d) Value))
+      + beyond_purpose purpose ≤ last
+      → TermTyped purpose d slot (binary_code (term_source b z J) (term_source a z J) o d purpose
+      (term_code a z J d Value) (term_code b z J (depth_behind (is_operand a || is_operand b) d) Value))
+  binary_typed o a b z J d lets purpose slot room below small place fits_a fits_b left right le =
+      let deep = depth_behind (is_operand a || is_operand b) d in
+      let more : d ≤ deep = behind_more (is_operand a || is_operand b) d in
+      let memory = λ (y : Source) (there : IsThere y lets z.memory). subst (λ (m : ℕ). IsThere y lets m) room there in
+      sides_typed (term_source b z J) (term_source a z J) o purpose d deep lets slot (term_code a z J d Value)
+      (term_code b z J deep Value) (memory (term_source b z J) (source_there b z J (length J) lets deep fits_b))
+      (memory (term_source a z J) (source_there a z J (length J) lets d fits_a)) below small
+      (λ e. same_depth (is_operand a) (is_operand b) d (sym (found_same a z J) ∙ e))
+      (λ e f. free_beside (is_operand a) (is_operand b) d (sym (found_same a z J) ∙ e)
+      (sym (found_same b z J) ∙ f) place) le
+      (λ k. left J d slot below small fits_a k)
+      (λ to few_deep k. right J deep to (omega (arith, below, more)) few_deep fits_b k)
+
+  -- the tests of an operator between two terms
+  sides_tests_typed : (tally : Tally) (o : Operator) (a b : Term) (z : Sizes) (J : List ℕ) (d lets slot : ℕ)
+      → z.nodes ≡ shape.nodes → z.nodes ≤ 64 → z.memory ≡ shape.memory → lets ≤ d → d < PLACES
+      → SidesFit (is_shared o a b (length J)) (is_operand a || is_operand b) d
+      (λ e. Fits a z (length J + 1) lets e) (λ e. Fits b z (length J + 1) lets e)
+      → ValueTyped a z lets → ValueTyped b z lets
+      → OverTyped d slot (sides_code tally o a b z J d (λ I e. term_code a z I e Value) (λ I e. term_code b z I e Value))
+  sides_tests_typed tally o a b z J d lets slot same few room below small fits left right =
+      by (is_shared o a b (length J)) refl
+    where
+      more : (j : ℕ) → length J + 1 ≡ length (J ++ j ∷ [])
+      more j = omega (arith, length-append J (j ∷ []))
+
+      left_fits : (j e : ℕ) → Fits a z (length J + 1) lets e → Fits a z (length (J ++ j ∷ [])) lets e
+      left_fits j e f = subst (λ (n : ℕ). Fits a z n lets e) (more j) f
+
+      right_fits : (j e : ℕ) → Fits b z (length J + 1) lets e → Fits b z (length (J ++ j ∷ [])) lets e
+      right_fits j e f = subst (λ (n : ℕ). Fits b z n lets e) (more j) f
+
+      code : Bool → List Insn
+      code shared = if shared
+          then shared_code tally d z.nodes o (term_code b z (J ++ 0 ∷ []) (d + 1) Value)
+          (λ j. term_code a z (J ++ j ∷ []) (d + 2) Value)
+          else tests_code tally d z.nodes (λ j. binary_code (term_source b z (J ++ j ∷ [])) (term_source a z (J ++ j ∷ []))
+          o (d + 1) (tally_test tally d) (term_code a z (J ++ j ∷ []) (d + 1) Value)
+          (term_code b z (J ++ j ∷ []) (depth_behind (is_operand a || is_operand b) (d + 1)) Value))
+
+      Fit : Bool → Type 0
+      Fit shared = SidesFit shared (is_operand a || is_operand b) d (λ e. Fits a z (length J + 1) lets e)
+          (λ e. Fits b z (length J + 1) lets e)
+
+      by : (shared : Bool) → is_shared o a b (length J) ≡ shared → OverTyped d slot (code (is_shared o a b (length J)))
+      by true is =
+          let f : Fit true = subst Fit is fits in
+          subst (λ (shared : Bool). OverTyped d slot (code shared)) (sym is)
+          (shared_tests_typed tally d slot z.nodes o (term_code b z (J ++ 0 ∷ []) (d + 1) Value)
+          (λ j. term_code a z (J ++ j ∷ []) (d + 2) Value) f.0 (omega (arith, same)) (omega (arith, same, few))
+          (λ to k. right (J ++ 0 ∷ []) (d + 1) to (omega (arith, below)) (omega (arith, small)) (right_fits 0 (d + 1) f.1) k)
+          (λ j to k. left (J ++ j ∷ []) (d + 2) to (omega (arith, below)) (omega (arith, f.0)) (left_fits j (d + 2) f.2) k))
+      by false is =
+          let f : Fit false = subst Fit is fits in
+          let found = is_operand a || is_operand b in
+          subst (λ (shared : Bool). OverTyped d slot (code shared)) (sym is)
+          (plain_tests_typed tally d slot z.nodes (λ j. binary_code (term_source b z (J ++ j ∷ []))
+          (term_source a z (J ++ j ∷ [])) o (d + 1) (tally_test tally d) (term_code a z (J ++ j ∷ []) (d + 1) Value)
+          (term_code b z (J ++ j ∷ []) (depth_behind found (d + 1)) Value)) small (omega (arith, same))
+          (omega (arith, same, few))
+          (λ j to k. binary_typed o a b z (J ++ j ∷ []) (d + 1) lets (tally_test tally d) to room (omega (arith, below))
+          (omega (arith, small)) f.0 (left_fits j (d + 1) f.1) (right_fits j (depth_behind found (d + 1)) f.2) left right k))
+
   -- ---- terms
 
   pub term_typed : (t : Term) (z : Sizes) (J : List ℕ) (d lets : ℕ) (purpose : Purpose) (slot : ℕ)
@@ -1687,19 +1799,11 @@ module _ (program : List Insn) (shape : Extent) (last : ℕ) (solid : (k : ℕ) 
       (λ l. message_by_typed (term_source a z J) d z.nodes slot code same some few l
       (λ k. term_typed a z J d lets Value slot same some few room below small fits (omega (arith, k))))
   term_typed (Binary' o p a q b) z J d lets purpose slot same some few room below small fits le =
-      let deep = depth_behind (is_operand a || is_operand b) d in
-      let more : d ≤ deep = behind_more (is_operand a || is_operand b) d in
-      let memory = λ (y : Source) (there : IsThere y lets z.memory). subst (λ (m : ℕ). IsThere y lets m) room there in
-      sides_typed (term_source b z J) (term_source a z J) o purpose d deep lets slot (term_code a z J d Value)
-      (term_code b z J deep Value) (memory (term_source b z J) (source_there b z J (length J) lets deep fits.2))
-      (memory (term_source a z J) (source_there a z J (length J) lets d fits.1)) below small
-      (λ e. same_depth (is_operand a) (is_operand b) d (sym (found_same a z J) ∙ e))
-      (λ e f. free_beside (is_operand a) (is_operand b) d (sym (found_same a z J) ∙ e)
-      (sym (found_same b z J) ∙ f) fits.0) le
-      (λ k. term_typed a z J d lets Value slot same some few room below small fits.1 (omega (arith, k)))
-      (λ to few_deep k. term_typed b z J deep lets Value to same some few room (omega (arith, below, more))
-      few_deep fits.2
+      binary_typed o a b z J d lets purpose slot room below small fits.0 fits.1 fits.2
+      (λ I e to more few_e fit k. term_typed a z I e lets Value to same some few room more few_e fit
       (omega (arith, k)))
+      (λ I e to more few_e fit k. term_typed b z I e lets Value to same some few room more few_e fit
+      (omega (arith, k))) le
   term_typed (Logical' c p a q b) z J d lets purpose slot same some few room below small fits le =
       let left = λ (w : Bool) (g : ℕ). term_code a z J d (Jump w g) in
       by_test_typed purpose d slot (λ when far. both_code (decides c) when far left
@@ -1719,22 +1823,44 @@ module _ (program : List Insn) (shape : Extent) (last : ℕ) (solid : (k : ℕ) 
       (λ far k. term_typed t z J d lets (Jump false far) slot same some few room below small fits.0 k)
       (λ to k. term_typed a z J d lets Value to same some few room below small fits.1 (omega (arith, k)))
       (λ to k. term_typed b z J d lets Value to same some few room below small fits.2 (omega (arith, k))))
+  term_typed (Count' p (Binary' o q a r b)) z J d lets purpose slot same some few room below small fits le =
+      let tests = sides_code HowMany o a b z J d (λ I e. term_code a z I e Value) (λ I e. term_code b z I e Value) in
+      by_value_typed purpose d slot (tally_code HowMany d tests) le
+      (λ l. tally_typed HowMany d slot tests fits.0 l
+      (λ to. sides_tests_typed HowMany o a b z J d lets to same few room below fits.0 fits.1
+      (λ I e to more few_e fit k. term_typed a z I e lets Value to same some few room more few_e fit
+      (omega (arith, k)))
+      (λ I e to more few_e fit k. term_typed b z I e lets Value to same some few room more few_e fit
+      (omega (arith, k)))))
   term_typed (Count' p t) z J d lets purpose slot same some few room below small fits le =
       let test = λ (j : ℕ). term_code t z (J ++ j ∷ []) (d + 1) (tally_test HowMany d) in
-      by_value_typed purpose d slot (tally_code HowMany d z.nodes test) le
-      (λ l. tally_typed HowMany d slot z.nodes test fits.0 (omega (arith, same)) (omega (arith, same, few)) l
+      let tests = tests_code HowMany d z.nodes test in
+      by_value_typed purpose d slot (tally_code HowMany d tests) le
+      (λ l. tally_typed HowMany d slot tests fits.0 l
+      (λ to2. plain_tests_typed HowMany d to2 z.nodes test fits.0 (omega (arith, same)) (omega (arith, same, few))
       (λ j to k.
       let more : length J + 1 ≡ length (J ++ j ∷ []) = omega (arith, length-append J (j ∷ [])) in
       term_typed t z (J ++ j ∷ []) (d + 1) lets (tally_test HowMany d) to same some few room (omega (arith, below))
-      (omega (arith, fits.0)) (subst (λ (n : ℕ). Fits t z n lets (d + 1)) more fits.1) k))
+      (omega (arith, fits.0)) (subst (λ (n : ℕ). Fits t z n lets (d + 1)) more fits.1) k)))
+  term_typed (Least' p (Binary' o q a r b)) z J d lets purpose slot same some few room below small fits le =
+      let tests = sides_code LeastMessage o a b z J d (λ I e. term_code a z I e Value) (λ I e. term_code b z I e Value) in
+      by_value_typed purpose d slot (tally_code LeastMessage d tests) le
+      (λ l. tally_typed LeastMessage d slot tests fits.0 l
+      (λ to. sides_tests_typed LeastMessage o a b z J d lets to same few room below fits.0 fits.1
+      (λ I e to more few_e fit k. term_typed a z I e lets Value to same some few room more few_e fit
+      (omega (arith, k)))
+      (λ I e to more few_e fit k. term_typed b z I e lets Value to same some few room more few_e fit
+      (omega (arith, k)))))
   term_typed (Least' p t) z J d lets purpose slot same some few room below small fits le =
       let test = λ (j : ℕ). term_code t z (J ++ j ∷ []) (d + 1) (tally_test LeastMessage d) in
-      by_value_typed purpose d slot (tally_code LeastMessage d z.nodes test) le
-      (λ l. tally_typed LeastMessage d slot z.nodes test fits.0 (omega (arith, same)) (omega (arith, same, few)) l
+      let tests = tests_code LeastMessage d z.nodes test in
+      by_value_typed purpose d slot (tally_code LeastMessage d tests) le
+      (λ l. tally_typed LeastMessage d slot tests fits.0 l
+      (λ to2. plain_tests_typed LeastMessage d to2 z.nodes test fits.0 (omega (arith, same)) (omega (arith, same, few))
       (λ j to k.
       let more : length J + 1 ≡ length (J ++ j ∷ []) = omega (arith, length-append J (j ∷ [])) in
       term_typed t z (J ++ j ∷ []) (d + 1) lets (tally_test LeastMessage d) to same some few room (omega (arith, below))
-      (omega (arith, fits.0)) (subst (λ (n : ℕ). Fits t z n lets (d + 1)) more fits.1) k))
+      (omega (arith, fits.0)) (subst (λ (n : ℕ). Fits t z n lets (d + 1)) more fits.1) k)))
   term_typed (Sorted' p k q e) z J d lets purpose slot same some few room below small fits le =
       let item = λ (j : ℕ). term_code e z (J ++ j ∷ []) (d + j) Value in
       by_value_typed purpose d slot (sorted_code (constant_number k z J) d z.nodes item) le
@@ -1744,3 +1870,21 @@ module _ (program : List Insn) (shape : Extent) (last : ℕ) (solid : (k : ℕ) 
       term_typed e z (J ++ j ∷ []) (d + j) lets Value to same some few room (omega (arith, below))
       (omega (arith, lt, fits.2)) (subst (λ (n : ℕ). Fits e z n lets (d + j)) more
       (fits_less e z (length J + 1) lets (d + j) (d + z.nodes) (omega (arith, lt)) fits.3)) (omega (arith, k))))
+
+  -- the tests of a tally over the nodes at which a term holds
+  pub over_typed : (tally : Tally) (t : Term) (z : Sizes) (J : List ℕ) (d lets slot : ℕ) → z.nodes ≡ shape.nodes
+      → 1 ≤ z.nodes → z.nodes ≤ 64 → z.memory ≡ shape.memory → lets ≤ d → TallyFits t z (length J) lets d
+      → OverTyped d slot (over_code tally t z J d)
+  over_typed tally (Binary' o q a r b) z J d lets slot same some few room below fits =
+      sides_tests_typed tally o a b z J d lets slot same few room below fits.0 fits.1
+      (λ I e to more few_e fit k. term_typed a z I e lets Value to same some few room more few_e fit
+      (omega (arith, k)))
+      (λ I e to more few_e fit k. term_typed b z I e lets Value to same some few room more few_e fit
+      (omega (arith, k)))
+  over_typed tally t z J d lets slot same some few room below fits =
+      let test = λ (j : ℕ). term_code t z (J ++ j ∷ []) (d + 1) (tally_test tally d) in
+      plain_tests_typed tally d slot z.nodes test fits.0 (omega (arith, same)) (omega (arith, same, few))
+      (λ j to k.
+      let more : length J + 1 ≡ length (J ++ j ∷ []) = omega (arith, length-append J (j ∷ [])) in
+      term_typed t z (J ++ j ∷ []) (d + 1) lets (tally_test tally d) to same some few room (omega (arith, below))
+      (omega (arith, fits.0)) (subst (λ (n : ℕ). Fits t z n lets (d + 1)) more fits.1) k)

@@ -46,9 +46,9 @@ use Rattle.rule_syntax.specs.declared.syntax.Term.TheVariants.{Number, Nodes, Fa
 use Rattle.rule_syntax.specs.declared.syntax.Statement.{Statement}
 use Rattle.rule_syntax.specs.declared.syntax.Statement.TheVariants.{Nothing, Then', Let', Assign, If', For', SendAll, SendTo}
 use Rattle.rule_nodes.specs.Meaning.{initial_state}
-use Rattle.rule_nodes.specs.Operands.{is_constant, constant_number, is_local, is_operand, is_steady, depth_behind, term_source}
+use Rattle.rule_nodes.specs.Operands.{is_constant, constant_number, is_local, is_operand, is_steady, is_shared, depth_behind, term_source}
 use Rattle.rule_nodes.specs.Fits.{BlockFits}
-use Rattle.rule_nodes.specs.Code.{number_place, fetch_code, keep_code, start_code, increment_code, load_place, set_number, set_node, get_code, operand_code, load_code, left_code, right_code, beside_code, binary_code, mirror, message_by, copy, truth_code, by_value, by_test, by_operator, choice_code, if_code, is_nothing, decides, both_far, both_code, jump_on, jump_by, jump_register, message_code, tally_start, tally_step, tally_codes, tallied_code, tally_test, items_code, exchange_code, exchange_codes, pass_code, pass_codes, nearer_end, passes_before, sorted_code, term_code, assign_code, place_code, word_code, set_code, change_place, given_code, alu_op_of, changing_insn, one_code, also_code, assignment_code, stored_code, let_code, send_code, send_codes, send_all_code, passed_code, idle_code, receiver_code, send_to_code, each_code, block_code, tail_code, rule_code}
+use Rattle.rule_nodes.specs.Code.{number_place, fetch_code, keep_code, start_code, increment_code, load_place, set_number, set_node, get_code, operand_code, load_code, left_code, right_code, beside_code, binary_code, mirror, message_by, copy, truth_code, by_value, by_test, by_operator, choice_code, if_code, is_nothing, decides, both_far, both_code, jump_on, jump_by, jump_register, message_code, tally_start, tally_step, tally_codes, tests_code, tallied_code, tally_test, shared_code, sides_code, items_code, exchange_code, exchange_codes, pass_code, pass_codes, nearer_end, passes_before, sorted_code, term_code, over_code, assign_code, place_code, word_code, set_code, change_place, given_code, alu_op_of, changing_insn, one_code, also_code, assignment_code, stored_code, let_code, send_code, send_codes, send_all_code, passed_code, idle_code, receiver_code, send_to_code, each_code, block_code, tail_code, rule_code}
 use Rattle.rule_nodes.specs.Ends.{AreSizes, IsRuleEnd}
 use Rattle.rule_nodes.proofs.Forms.{leads_add, once, chain, further}
 use Rattle.rule_nodes.proofs.States.{stands_front, stands_back, Holds, IsSized}
@@ -173,13 +173,38 @@ ones_tallies step test (suc n) h g =
     ones_append (tally_codes step test n) _ (ones_tallies step test n h g) (ones_append (test n) _ (g n) (h n))
 
 -- a tally, and what follows
-ones_tallied : (tally : Tally) (d n : ℕ) (test : ℕ → List Insn) (rest : List Insn) → ((j : ℕ) → Ones (test j))
-    → Ones rest → Ones (tallied_code tally d n test ++ rest)
-ones_tallied tally d n test rest h g = (
-  one_start (number_place d) (tally_start tally),
-  ones_append (tally_codes (tally_step tally (number_place d)) test n) rest
-      (ones_tallies (tally_step tally (number_place d)) test n (ones_step tally (number_place d)) h) g,
+ones_tallied : (tally : Tally) (d : ℕ) (tests rest : List Insn) → Ones tests → Ones rest
+    → Ones (tallied_code tally d tests ++ rest)
+ones_tallied tally d tests rest h g = (one_start (number_place d) (tally_start tally), ones_append tests rest h g)
+
+ones_tests : (tally : Tally) (d n : ℕ) (test : ℕ → List Insn) → ((j : ℕ) → Ones (test j)) → Ones (tests_code tally d n test)
+ones_tests tally d n test h =
+    ones_tallies (tally_step tally (number_place d)) test n (ones_step tally (number_place d)) h
+
+ones_shared : (tally : Tally) (d n : ℕ) (o : Operator) (right : List Insn) (left : ℕ → List Insn) → Ones right
+    → ((j : ℕ) → Ones (left j)) → Ones (shared_code tally d n o right left)
+ones_shared tally d n o right left h g = ones_append right _ h (
+  one_keep (number_place (d + 1)),
+  ones_tests tally d n (λ j. right_code o (FromLocal (d + 1)) (tally_test tally d) (left j))
+      (λ j. ones_right o (FromLocal (d + 1)) (tally_test tally d) (left j) (g j)),
 )
+
+ones_sides : (tally : Tally) (o : Operator) (a b : Term) (z : Sizes) (J : List ℕ) (d : ℕ)
+    (left right : List ℕ → ℕ → List Insn) → ((I : List ℕ) (e : ℕ) → Ones (left I e))
+    → ((I : List ℕ) (e : ℕ) → Ones (right I e)) → Ones (sides_code tally o a b z J d left right)
+ones_sides tally o a b z J d left right h g = by (is_shared o a b (length J))
+  where
+    by : (shared : Bool) → Ones (if shared
+        then shared_code tally d z.nodes o (right (J ++ 0 ∷ []) (d + 1)) (λ j. left (J ++ j ∷ []) (d + 2))
+        else tests_code tally d z.nodes (λ j. binary_code (term_source b z (J ++ j ∷ [])) (term_source a z (J ++ j ∷ [])) o
+        (d + 1) (tally_test tally d) (left (J ++ j ∷ []) (d + 1))
+        (right (J ++ j ∷ []) (depth_behind (is_operand a || is_operand b) (d + 1)))))
+    by true = ones_shared tally d z.nodes o (right (J ++ 0 ∷ []) (d + 1)) (λ j. left (J ++ j ∷ []) (d + 2))
+        (g (J ++ 0 ∷ []) (d + 1)) (λ j. h (J ++ j ∷ []) (d + 2))
+    by false = ones_tests tally d z.nodes _ (λ j. ones_binary (term_source b z (J ++ j ∷ []))
+        (term_source a z (J ++ j ∷ [])) o (d + 1) (tally_test tally d) (left (J ++ j ∷ []) (d + 1))
+        (right (J ++ j ∷ []) (depth_behind (is_operand a || is_operand b) (d + 1))) (h (J ++ j ∷ []) (d + 1))
+        (g (J ++ j ∷ []) (depth_behind (is_operand a || is_operand b) (d + 1))))
 
 ones_items : (d n : ℕ) (item : ℕ → List Insn) → ((j : ℕ) → Ones (item j)) → Ones (items_code d item n)
 ones_items d zero item h = tt
@@ -235,12 +260,18 @@ ones_term (Not' p a) z J d purpose = ones_test purpose (λ when far. term_code a
 ones_term (Choice' p t q a r b) z J d purpose = ones_value purpose _
     (ones_choice (λ far. term_code t z J d (Jump false far)) _ _ (λ far. ones_term t z J d (Jump false far))
     (ones_term a z J d Value) (ones_term b z J d Value))
-ones_term (Count' p t) z J d purpose = ones_value purpose _
-    (ones_tallied HowMany d z.nodes (λ j. term_code t z (J ++ j ∷ []) (d + 1) (tally_test HowMany d)) _
-    (λ j. ones_term t z (J ++ j ∷ []) (d + 1) (tally_test HowMany d)) (one_fetch R0 (number_place d), tt))
-ones_term (Least' p t) z J d purpose = ones_value purpose _
-    (ones_tallied LeastMessage d z.nodes (λ j. term_code t z (J ++ j ∷ []) (d + 1) (tally_test LeastMessage d)) _
-    (λ j. ones_term t z (J ++ j ∷ []) (d + 1) (tally_test LeastMessage d)) (one_fetch R0 (number_place d), tt))
+ones_term (Count' p (Binary' o q a r b)) z J d purpose = ones_value purpose _ (ones_tallied HowMany d _ _
+    (ones_sides HowMany o a b z J d (λ I e. term_code a z I e Value) (λ I e. term_code b z I e Value)
+    (λ I e. ones_term a z I e Value) (λ I e. ones_term b z I e Value)) (one_fetch R0 (number_place d), tt))
+ones_term (Count' p t) z J d purpose = ones_value purpose _ (ones_tallied HowMany d _ _
+    (ones_tests HowMany d z.nodes (λ j. term_code t z (J ++ j ∷ []) (d + 1) (tally_test HowMany d))
+    (λ j. ones_term t z (J ++ j ∷ []) (d + 1) (tally_test HowMany d))) (one_fetch R0 (number_place d), tt))
+ones_term (Least' p (Binary' o q a r b)) z J d purpose = ones_value purpose _ (ones_tallied LeastMessage d _ _
+    (ones_sides LeastMessage o a b z J d (λ I e. term_code a z I e Value) (λ I e. term_code b z I e Value)
+    (λ I e. ones_term a z I e Value) (λ I e. ones_term b z I e Value)) (one_fetch R0 (number_place d), tt))
+ones_term (Least' p t) z J d purpose = ones_value purpose _ (ones_tallied LeastMessage d _ _
+    (ones_tests LeastMessage d z.nodes (λ j. term_code t z (J ++ j ∷ []) (d + 1) (tally_test LeastMessage d))
+    (λ j. ones_term t z (J ++ j ∷ []) (d + 1) (tally_test LeastMessage d))) (one_fetch R0 (number_place d), tt))
 ones_term (Sorted' p k q e) z J d purpose = ones_value purpose _
     (ones_sorted (constant_number k z J) d z.nodes (λ j. term_code e z (J ++ j ∷ []) (d + j) Value)
     (λ j. ones_term e z (J ++ j ∷ []) (d + j) Value))
@@ -333,13 +364,16 @@ ones_stored (FromWord k) d code rest h g = ones_append (place_code (number_place
     (ones_placed (number_place d) (FromWord k)) g
 ones_stored Computed d code rest h g = ones_append code (keep_code (number_place d) ∷ rest) h (one_keep (number_place d), g)
 
+ones_over : (tally : Tally) (t : Term) (z : Sizes) (J : List ℕ) (d : ℕ) → Ones (over_code tally t z J d)
+ones_over tally (Binary' o q a r b) z J d =
+    ones_sides tally o a b z J d (λ I e. term_code a z I e Value) (λ I e. term_code b z I e Value)
+    (λ I e. ones_term a z I e Value) (λ I e. ones_term b z I e Value)
+ones_over tally t z J d = ones_tests tally d z.nodes (λ j. term_code t z (J ++ j ∷ []) (d + 1) (tally_test tally d))
+    (λ j. ones_term t z (J ++ j ∷ []) (d + 1) (tally_test tally d))
+
 ones_let : (e : Term) (z : Sizes) (J : List ℕ) (d : ℕ) (rest : List Insn) → Ones rest → Ones (let_code e z J d rest)
-ones_let (Count' p t) z J d rest h =
-    ones_tallied HowMany d z.nodes (λ j. term_code t z (J ++ j ∷ []) (d + 1) (tally_test HowMany d)) rest
-    (λ j. ones_term t z (J ++ j ∷ []) (d + 1) (tally_test HowMany d)) h
-ones_let (Least' p t) z J d rest h =
-    ones_tallied LeastMessage d z.nodes (λ j. term_code t z (J ++ j ∷ []) (d + 1) (tally_test LeastMessage d)) rest
-    (λ j. ones_term t z (J ++ j ∷ []) (d + 1) (tally_test LeastMessage d)) h
+ones_let (Count' p t) z J d rest h = ones_tallied HowMany d _ rest (ones_over HowMany t z J d) h
+ones_let (Least' p t) z J d rest h = ones_tallied LeastMessage d _ rest (ones_over LeastMessage t z J d) h
 ones_let e z J d rest h =
     ones_stored (term_source e z J) d (term_code e z J d Value) rest (ones_term e z J d Value) h
 

@@ -16,7 +16,7 @@ use Rattle.bpf_insn.specs.declared.forms.Operand.TheVariants.{Imm, Reg}
 use Rattle.bpf_insn.specs.declared.forms.Insn.{Insn}
 use Rattle.bpf_insn.specs.declared.forms.Insn.TheVariants.{Alu, Branch, Ja, Call, Exit, Load, StoreReg, StoreImm}
 use Rattle.rule_nodes.specs.Meaning.{apply_operator}
-use Rattle.rule_nodes.specs.Operands.{is_constant, is_operand, is_local, is_steady, constant_number, depth_behind, term_source}
+use Rattle.rule_nodes.specs.Operands.{is_constant, is_operand, is_local, is_steady, is_shared, constant_number, depth_behind, term_source}
 use Rattle.rule_syntax.specs.declared.syntax.Sizes.{Sizes}
 use Rattle.rule_syntax.specs.declared.syntax.Operation.{Operation}
 use Rattle.rule_syntax.specs.declared.syntax.Operation.TheVariants.{Sum, Difference, Product, Quotient, Remainder}
@@ -287,17 +287,36 @@ abbrev pub tally_codes : (ℕ → List Insn) → (ℕ → List Insn) → ℕ →
 tally_codes step test zero = []
 tally_codes step test (suc n) = tally_codes step test n ++ (test n ++ step n)
 
--- in place d
-abbrev pub tallied_code : Tally → ℕ → ℕ → (ℕ → List Insn) → List Insn
-tallied_code tally d n test =
-    start_code (number_place d) (tally_start tally) ∷ tally_codes (tally_step tally (number_place d)) test n
+-- the tests and steps of n nodes, for a tally in place d
+abbrev pub tests_code : Tally → ℕ → ℕ → (ℕ → List Insn) → List Insn
+tests_code tally d n test = tally_codes (tally_step tally (number_place d)) test n
 
-abbrev pub tally_code : Tally → ℕ → ℕ → (ℕ → List Insn) → List Insn
-tally_code tally d n test = tallied_code tally d n test ++ fetch_code R0 (number_place d) ∷ []
+-- the tally stays in place d
+abbrev pub tallied_code : Tally → ℕ → List Insn → List Insn
+tallied_code tally d tests = start_code (number_place d) (tally_start tally) ∷ tests
+
+abbrev pub tally_code : Tally → ℕ → List Insn → List Insn
+tally_code tally d tests = tallied_code tally d tests ++ fetch_code R0 (number_place d) ∷ []
 
 -- the steps of all nodes have the same length
 abbrev pub tally_test : Tally → ℕ → Purpose
 tally_test tally d = Jump false (length (tally_step tally (number_place d) 0))
+
+-- the right number is computed once, and stays in place d + 1 for the tests of all nodes
+abbrev pub shared_code : Tally → ℕ → ℕ → Operator → List Insn → (ℕ → List Insn) → List Insn
+shared_code tally d n o right left =
+    right ++ (keep_code (number_place (d + 1)) ∷ tests_code tally d n
+    (λ j. right_code o (FromLocal (d + 1)) (tally_test tally d) (left j)))
+
+-- the tests of an operator between two terms, by the codes of its sides for the nodes of the loops around and a depth
+abbrev pub sides_code : Tally → Operator → Term → Term → Sizes → List ℕ → ℕ → (List ℕ → ℕ → List Insn)
+    → (List ℕ → ℕ → List Insn) → List Insn
+sides_code tally o a b z J d left right =
+    if is_shared o a b (length J)
+    then shared_code tally d z.nodes o (right (J ++ 0 ∷ []) (d + 1)) (λ j. left (J ++ j ∷ []) (d + 2))
+    else tests_code tally d z.nodes (λ j. binary_code (term_source b z (J ++ j ∷ [])) (term_source a z (J ++ j ∷ [])) o
+    (d + 1) (tally_test tally d) (left (J ++ j ∷ []) (d + 1))
+    (right (J ++ j ∷ []) (depth_behind (is_operand a || is_operand b) (d + 1))))
 
 -- ---- sorted numbers: the number of each node in a place, and then passes over the places
 
@@ -360,12 +379,23 @@ term_code (Logical' c p a q b) z J d purpose = by_test purpose (λ when far.
 term_code (Not' p a) z J d purpose = by_test purpose (λ when far. term_code a z J d (Jump (not when) far))
 term_code (Choice' p t q a r b) z J d purpose = by_value purpose
     (choice_code (λ far. term_code t z J d (Jump false far)) (term_code a z J d Value) (term_code b z J d Value))
-term_code (Count' p t) z J d purpose = by_value purpose
-    (tally_code HowMany d z.nodes (λ j. term_code t z (J ++ j ∷ []) (d + 1) (tally_test HowMany d)))
-term_code (Least' p t) z J d purpose = by_value purpose
-    (tally_code LeastMessage d z.nodes (λ j. term_code t z (J ++ j ∷ []) (d + 1) (tally_test LeastMessage d)))
+term_code (Count' p (Binary' o q a r b)) z J d purpose = by_value purpose (tally_code HowMany d
+    (sides_code HowMany o a b z J d (λ I e. term_code a z I e Value) (λ I e. term_code b z I e Value)))
+term_code (Count' p t) z J d purpose = by_value purpose (tally_code HowMany d
+    (tests_code HowMany d z.nodes (λ j. term_code t z (J ++ j ∷ []) (d + 1) (tally_test HowMany d))))
+term_code (Least' p (Binary' o q a r b)) z J d purpose = by_value purpose (tally_code LeastMessage d
+    (sides_code LeastMessage o a b z J d (λ I e. term_code a z I e Value) (λ I e. term_code b z I e Value)))
+term_code (Least' p t) z J d purpose = by_value purpose (tally_code LeastMessage d
+    (tests_code LeastMessage d z.nodes (λ j. term_code t z (J ++ j ∷ []) (d + 1) (tally_test LeastMessage d))))
 term_code (Sorted' p k q e) z J d purpose = by_value purpose
     (sorted_code (constant_number k z J) d z.nodes (λ j. term_code e z (J ++ j ∷ []) (d + j) Value))
+
+-- the tests and steps of a tally over the nodes at which a term holds
+abbrev pub over_code : Tally → Term → Sizes → List ℕ → ℕ → List Insn
+over_code tally (Binary' o q a r b) z J d =
+    sides_code tally o a b z J d (λ I e. term_code a z I e Value) (λ I e. term_code b z I e Value)
+over_code tally t z J d =
+    tests_code tally d z.nodes (λ j. term_code t z (J ++ j ∷ []) (d + 1) (tally_test tally d))
 
 -- ---- statements
 
@@ -476,10 +506,8 @@ stored_code x d code rest = place_code (number_place d) x ++ rest
 
 -- a let at depth d, and what follows: a tally stays where it was made
 abbrev pub let_code : Term → Sizes → List ℕ → ℕ → List Insn → List Insn
-let_code (Count' p t) z J d rest =
-    tallied_code HowMany d z.nodes (λ j. term_code t z (J ++ j ∷ []) (d + 1) (tally_test HowMany d)) ++ rest
-let_code (Least' p t) z J d rest =
-    tallied_code LeastMessage d z.nodes (λ j. term_code t z (J ++ j ∷ []) (d + 1) (tally_test LeastMessage d)) ++ rest
+let_code (Count' p t) z J d rest = tallied_code HowMany d (over_code HowMany t z J d) ++ rest
+let_code (Least' p t) z J d rest = tallied_code LeastMessage d (over_code LeastMessage t z J d) ++ rest
 let_code e z J d rest = stored_code (term_source e z J) d (term_code e z J d Value) rest
 
 abbrev pub is_nothing : Statement → Bool

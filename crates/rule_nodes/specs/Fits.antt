@@ -11,13 +11,19 @@ use Rattle.rule_syntax.specs.declared.syntax.Term.TheVariants.{Number, Nodes, Fa
 use Rattle.rule_syntax.specs.declared.syntax.Statement.{Statement}
 use Rattle.rule_syntax.specs.declared.syntax.Statement.TheVariants.{Nothing, Then', Let', Assign, If', For', SendAll, SendTo}
 use Rattle.rule_nodes.specs.declared.numbers.TheConstants.{PLACES}
-use Rattle.rule_nodes.specs.Operands.{is_constant, is_operand, is_steady, depth_behind}
+use Rattle.rule_nodes.specs.Operands.{is_constant, is_operand, is_steady, is_shared, depth_behind}
 
 -- true: no place is needed; false: depth d has a free place. Two computed sides need one for the left number, as does a
 -- computed number that is sent to all, or assigned with others, or sent to a node that is no constant
 abbrev pub HasPlace : Bool → ℕ → Type 0
 HasPlace true d = Unit {0}
 HasPlace false d = d < PLACES
+
+-- what the sides of the test of a tally in place d need, by what they need at a depth. A shared right number is kept in place
+-- d + 1; any other test is at depth d + 1
+abbrev pub SidesFit : Bool → Bool → ℕ → (ℕ → Type 0) → (ℕ → Type 0) → Type 0
+SidesFit true found d Left Right = (d + 1 < PLACES) × Right (d + 1) × Left (d + 2)
+SidesFit false found d Left Right = HasPlace found (d + 1) × Left (d + 1) × Right (depth_behind found (d + 1))
 
 -- a term at depth d, in a number of loops and with a number of lets in scope
 abbrev pub Fits : Term → Sizes → ℕ → ℕ → ℕ → Type 0
@@ -37,10 +43,23 @@ Fits (Binary' o p a q b) z loops lets d =
 Fits (Logical' c p a q b) z loops lets d = Fits a z loops lets d × Fits b z loops lets d
 Fits (Not' p a) z loops lets d = Fits a z loops lets d
 Fits (Choice' p t q a r b) z loops lets d = Fits t z loops lets d × Fits a z loops lets d × Fits b z loops lets d
+Fits (Count' p (Binary' o q a r b)) z loops lets d =
+    (d < PLACES) × SidesFit (is_shared o a b loops) (is_operand a || is_operand b) d
+    (λ e. Fits a z (loops + 1) lets e) (λ e. Fits b z (loops + 1) lets e)
 Fits (Count' p t) z loops lets d = (d < PLACES) × Fits t z (loops + 1) lets (d + 1)
+Fits (Least' p (Binary' o q a r b)) z loops lets d =
+    (d < PLACES) × SidesFit (is_shared o a b loops) (is_operand a || is_operand b) d
+    (λ e. Fits a z (loops + 1) lets e) (λ e. Fits b z (loops + 1) lets e)
 Fits (Least' p t) z loops lets d = (d < PLACES) × Fits t z (loops + 1) lets (d + 1)
 Fits (Sorted' p k q e) z loops lets d =
     (is_constant k ≡ true) × Fits k z loops lets d × (d + z.nodes ≤ PLACES) × Fits e z (loops + 1) lets (d + z.nodes)
+
+-- the tests of a tally in place d
+abbrev pub TallyFits : Term → Sizes → ℕ → ℕ → ℕ → Type 0
+TallyFits (Binary' o q a r b) z loops lets d =
+    (d < PLACES) × SidesFit (is_shared o a b loops) (is_operand a || is_operand b) d
+    (λ e. Fits a z (loops + 1) lets e) (λ e. Fits b z (loops + 1) lets e)
+TallyFits t z loops lets d = (d < PLACES) × Fits t z (loops + 1) lets (d + 1)
 
 abbrev pub TargetFits : Target → ℕ → ℕ → Type 0
 TargetFits (ToLocal k) memory lets = k < lets

@@ -44,7 +44,7 @@ fn by_operator_of(
 }
 
 /// Returns the code of an operator whose right number is found.
-fn right_found(
+pub fn right_found(
     operator: Operator,
     y: Source,
     left: Vec<Insn>,

@@ -1,14 +1,16 @@
 //! Whether a rule fits: its numbers, names, words and places.
 ghost use Rattle.std.specs.Prelude.{◌≡◌, ◌≤◌, ◌<◌, ◌+◌, ◌*◌, ◌^◌, ◌||◌, true, IfOk, IfErr};
-ghost use Rattle.rule_nodes.specs.Operands.{is_constant, is_operand, is_steady};
-ghost use Rattle.rule_nodes.specs.Fits.{HasPlace, Fits, TargetFits, AssignmentFits, BlockFits};
+ghost use Rattle.rule_nodes.specs.Operands.{is_constant, is_operand, is_steady, is_shared};
+ghost use Rattle.rule_nodes.specs.Fits.{HasPlace, SidesFit, Fits, TallyFits, TargetFits, AssignmentFits, BlockFits};
 ghost use Rattle.rule_nodes.specs.Refusals.{IsUnfit};
 
 use crate::assignments::is_steady_of;
 use crate::errors::CompileError;
 use crate::insns::has_word;
 use crate::numbers::PLACES;
-use crate::operands::{beside_operand, depth_behind_of, is_constant_of, is_operand_of};
+use crate::operands::{
+    beside_operand, depth_behind_of, is_constant_of, is_operand_of, is_shared_of,
+};
 use rule_syntax::{Assignment, Sizes, Statement, Target, Term};
 
 /// Fails if a number needs a place, and there is none at the depth.
@@ -96,6 +98,8 @@ pub fn one_more(loops: usize) -> Result<usize, CompileError>
 }
 
 /// Fails if a term doesn't fit at a depth, in a number of loops and with `lets` lets in scope.
+#[tactic(auto, using(crate::proofs::Shared::count_ok, crate::proofs::Shared::least_ok, crate::proofs::Shared::count_unfit, crate::proofs::Shared::least_unfit))]
+#[cycle(fits)]
 fn term_fits(
     t: &Term,
     sizes: Sizes,
@@ -133,11 +137,8 @@ fn term_fits(
             term_fits(a, sizes, loops, lets, depth)?;
             term_fits(b, sizes, loops, lets, depth)
         }
-        Term::Count(c) | Term::Least(c) => {
-            needs_less(depth, PLACES)?;
-            let inner = one_more(loops)?;
-            term_fits(c, sizes, inner, lets, depth + 1)
-        }
+        Term::Count(c) => tally_fits(c, sizes, loops, lets, depth),
+        Term::Least(c) => tally_fits(c, sizes, loops, lets, depth),
         Term::Sorted(k, e) => {
             needs_constant(k)?;
             term_fits(k, sizes, loops, lets, depth)?;
@@ -145,6 +146,38 @@ fn term_fits(
             let inner = one_more(loops)?;
             term_fits(e, sizes, inner, lets, depth + sizes.nodes)
         }
+    }
+}
+
+/// Fails if the tests of a tally don't fit at a depth.
+#[cycle(fits)]
+fn tally_fits(
+    c: &Term,
+    sizes: Sizes,
+    loops: usize,
+    lets: u32,
+    depth: u32,
+) -> Result<(), CompileError>
+    requires { depth ≤ PLACES }
+    ensures fits { IfOk result (λ _. TallyFits c.now sizes loops lets depth) }
+    ensures unfit { IfErr result (IsUnfit (TallyFits c.now sizes loops lets depth)) }
+{
+    needs_less(depth, PLACES)?;
+    let inner = one_more(loops)?;
+    match c {
+        Term::Binary(operator, a, b) => {
+            if is_shared_of(*operator, a, b, loops) {
+                needs_less(depth + 1, PLACES)?;
+                term_fits(b, sizes, inner, lets, depth + 1)?;
+                term_fits(a, sizes, inner, lets, depth + 2)
+            } else {
+                let found = beside_operand(a, b);
+                needs_place(found, depth + 1)?;
+                term_fits(a, sizes, inner, lets, depth + 1)?;
+                term_fits(b, sizes, inner, lets, depth_behind_of(found, depth + 1))
+            }
+        }
+        _ => term_fits(c, sizes, inner, lets, depth + 1),
     }
 }
 

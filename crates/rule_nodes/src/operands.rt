@@ -1,7 +1,7 @@
 //! Where numbers are found: constants, locals and words of the memory.
 ghost use Rattle.std.specs.Prelude.{◌≡◌, ◌≤◌, ◌++◌, ◌||◌, slice_index, IfOk};
 ghost use Rattle.rule_nodes.specs.Meaning.{apply, compare, apply_operator};
-ghost use Rattle.rule_nodes.specs.Operands.{is_constant, is_operand, constant_number, depth_behind, fetched_source, term_source, IsSourceWithin};
+ghost use Rattle.rule_nodes.specs.Operands.{is_constant, is_operand, is_free, is_shared, shares_side, constant_number, depth_behind, fetched_source, term_source, IsSourceWithin};
 ghost use Rattle.rule_nodes.specs.Fits.{HasPlace};
 ghost use Rattle.rule_nodes.specs.Code.{load_place, get_code, operand_code, load_code};
 
@@ -65,6 +65,45 @@ pub fn is_operand_of(t: &Term) -> bool
     match t {
         Term::Local(_) | Term::Word(_) => true,
         _ => is_constant_of(t),
+    }
+}
+
+/// Returns true if a term has the same number for all nodes of a loop.
+fn is_free_of(t: &Term, level: usize) -> bool
+    ensures { result ≡ is_free t.now level }
+{
+    match t {
+        Term::Number(_) | Term::Nodes | Term::Faults | Term::Modulus | Term::Me | Term::Coin =>
+            true,
+        Term::LoopNode(k) => *k as usize != level,
+        Term::Local(_) | Term::Word(_) => true,
+        Term::Message(a) | Term::Not(a) | Term::Count(a) | Term::Least(a) => is_free_of(a, level),
+        Term::Binary(_, a, b) | Term::Logical(_, a, b) | Term::Sorted(a, b) => {
+            is_free_of(a, level) && is_free_of(b, level)
+        }
+        Term::Choice(c, a, b) => {
+            is_free_of(c, level) && (is_free_of(a, level) && is_free_of(b, level))
+        }
+    }
+}
+
+/// Returns true if the right side is computed once for all nodes of a loop.
+pub fn is_shared_of(operator: Operator, left: &Term, right: &Term, level: usize) -> bool
+    ensures { result ≡ is_shared operator left.now right.now level }
+{
+    match operator {
+        Operator::Compute(_) => false,
+        Operator::Compare(_) => !beside_operand(left, right) && is_free_of(right, level),
+    }
+}
+
+/// Returns true if a term is a comparison whose right side is computed once for all nodes of a loop.
+pub fn shares_side_of(t: &Term, level: usize) -> bool
+    ensures { result ≡ shares_side t.now level }
+{
+    match t {
+        Term::Binary(operator, a, b) => is_shared_of(*operator, a, b, level),
+        _ => false,
     }
 }
 

@@ -101,7 +101,8 @@ pub fn let_of(
     ensures { IfOk result (λ c. c.items ≡ let_code e.now sizes loops.now depth rest.now) }
 {
     match e {
-        Term::Count(_) | Term::Least(_) => joined(without_last(code), rest),
+        Term::Count(_) => joined(without_last(code), rest),
+        Term::Least(_) => joined(without_last(code), rest),
         _ => stored_from(alloc, source(e, sizes, loops), depth, code, rest),
     }
 }

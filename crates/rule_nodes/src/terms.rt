@@ -1,28 +1,29 @@
 //! The code of terms.
-ghost use Rattle.std.specs.Prelude.{◌≡◌, ◌≤◌, ◌<◌, ◌+◌, ◌*◌, ◌++◌, [], ◌∷◌, pos, length, IfOk, IfErr};
+ghost use Rattle.std.specs.Prelude.{◌≡◌, ◌≤◌, ◌<◌, ◌+◌, ◌*◌, ◌++◌, [], ◌∷◌, pos, true, length, IfOk, IfErr};
 ghost use Rattle.bpf_insn.specs.declared.forms.Reg.TheVariants.{R0, R6};
 ghost use Rattle.bpf_insn.specs.declared.forms.Size.TheVariants as size;
 ghost use Rattle.bpf_insn.specs.declared.forms.Insn.TheVariants as i;
-ghost use Rattle.rule_nodes.specs.Operands.{constant_number, term_source};
-ghost use Rattle.rule_nodes.specs.Fits.{Fits};
-ghost use Rattle.rule_nodes.specs.Code.{set_number, far_of, beyond_purpose, by_value, message_by, tally_code, tally_test, sorted_code, term_code};
+ghost use Rattle.rule_nodes.specs.Operands.{shares_side, constant_number, term_source};
+ghost use Rattle.rule_nodes.specs.Fits.{Fits, TallyFits};
+ghost use Rattle.rule_nodes.specs.Code.{set_number, far_of, beyond_purpose, by_value, message_by, right_code, tests_code, tally_code, tally_test, sorted_code, term_code, over_code};
 ghost use Rattle.rule_nodes.specs.declared.numbers.Purpose.TheVariants.{Value};
+ghost use Rattle.rule_nodes.specs.declared.numbers.Source.TheVariants.{FromLocal};
 ghost use Rattle.rule_nodes.specs.Refusals.{IsUnmade};
 
-use crate::binary::binary_of;
+use crate::binary::{binary_of, right_found};
 use crate::errors::CompileError;
 use crate::insns::{fetch_of, place_of, set_number_of, word_offset};
-use crate::numbers::{PLACES, Purpose, Tally};
-use crate::operands::{beside_operand, constant_of, depth_behind_of, source};
+use crate::numbers::{PLACES, Purpose, Source, Tally};
+use crate::operands::{beside_operand, constant_of, depth_behind_of, shares_side_of, source};
 use crate::parts::{
-    behind_test_of, by_value_of, chosen, first_test, joined, message_by_of, near, opposite_test,
-    short, single, skip_test, test_of, within,
+    behind_test_of, by_value_of, chosen, first_test, joined, kept_then, message_by_of, near,
+    opposite_test, short, single, skip_test, test_of, within,
 };
 use crate::sorts::{sorted_of, with_item};
 use crate::tallies::{tallied, tally_of, tally_test_of};
 use bpf_insn::{Insn, MAX_SLOTS, Reg, Size};
 use node_env::NO_MAIL;
-use rule_syntax::{Sizes, Term};
+use rule_syntax::{Operator, Sizes, Term};
 use std::alloc::{AllocError, Global};
 
 /// Returns the code of a constant.
@@ -73,6 +74,7 @@ fn message(
 }
 
 /// Returns the code of a term at a depth, with `lets` lets in scope. Fails if it is longer than a program.
+#[tactic(auto, using(crate::proofs::Shared::count_needs, crate::proofs::Shared::least_needs))]
 #[cycle(terms)]
 pub fn term(
     alloc: Global,
@@ -160,11 +162,40 @@ fn tally_over(
     requires some { 1 ≤ sizes.nodes }
     requires few { sizes.nodes ≤ 64 }
     requires memory { sizes.memory ≤ 256 }
+    requires deep { depth ≤ PLACES }
+    requires fits { TallyFits c.now sizes (length loops.now) lets depth }
+    ensures code { IfOk result (λ made. made.items
+        ≡ tally_code kind depth (over_code kind c.now sizes loops.now depth)) }
+    ensures long { IfErr result (IsUnmade (length
+        (tally_code kind depth (over_code kind c.now sizes loops.now depth)))) }
+{
+    let tests = if shares_side_of(c, loops.len()) {
+        shared_over(alloc, kind, c, sizes, loops, lets, depth)?
+    } else {
+        tests_over(alloc, kind, c, sizes, loops, lets, depth)?
+    };
+    Ok(tally_of(alloc, kind, place_of(depth), &tests)?)
+}
+
+/// Returns the tests and steps of a tally over the nodes at which a term holds.
+#[cycle(terms)]
+fn tests_over(
+    alloc: Global,
+    kind: Tally,
+    c: &Term,
+    sizes: Sizes,
+    loops: &[u32],
+    lets: u32,
+    depth: u32,
+) -> Result<Vec<Insn>, CompileError>
+    requires some { 1 ≤ sizes.nodes }
+    requires few { sizes.nodes ≤ 64 }
+    requires memory { sizes.memory ≤ 256 }
     requires deep { depth < PLACES }
     requires fits { Fits c.now sizes (length loops.now + 1) lets (depth + 1) }
-    ensures code { IfOk result (λ made. made.items ≡ tally_code kind depth sizes.nodes
+    ensures code { IfOk result (λ made. made.items ≡ tests_code kind depth sizes.nodes
         (λ j. term_code c.now sizes (loops.now ++ j ∷ []) (depth + 1) (tally_test kind depth))) }
-    ensures long { IfErr result (IsUnmade (length (tally_code kind depth sizes.nodes
+    ensures long { IfErr result (IsUnmade (length (tests_code kind depth sizes.nodes
         (λ j. term_code c.now sizes (loops.now ++ j ∷ []) (depth + 1) (tally_test kind depth))))) }
 {
     let place = place_of(depth);
@@ -175,7 +206,73 @@ fn tally_over(
         let test = term(alloc, c, sizes, &inner, lets, depth + 1, skip)?;
         codes = short(tallied(codes, &test, kind, place, node)?)?;
     }
-    Ok(tally_of(alloc, kind, place, &codes)?)
+    Ok(codes)
+}
+
+/// Returns the tests and steps of a tally over the nodes at which a comparison holds, with its right side computed once.
+#[cycle(terms)]
+fn shared_over(
+    alloc: Global,
+    kind: Tally,
+    c: &Term,
+    sizes: Sizes,
+    loops: &[u32],
+    lets: u32,
+    depth: u32,
+) -> Result<Vec<Insn>, CompileError>
+    requires some { 1 ≤ sizes.nodes }
+    requires few { sizes.nodes ≤ 64 }
+    requires memory { sizes.memory ≤ 256 }
+    requires fits { TallyFits c.now sizes (length loops.now) lets depth }
+    requires shared { shares_side c.now (length loops.now) ≡ true }
+    ensures code { IfOk result (λ made. made.items ≡ over_code kind c.now sizes loops.now depth) }
+    ensures long { IfErr result (IsUnmade (length (over_code kind c.now sizes loops.now depth))) }
+{
+    match c {
+        Term::Binary(operator, a, b) => {
+            let first = within(alloc, loops, 0)?;
+            let right = term(alloc, b, sizes, &first, lets, depth + 1, Purpose::Value)?;
+            let tests = lefts_over(alloc, kind, *operator, a, sizes, loops, lets, depth)?;
+            Ok(kept_then(right, depth + 1, &tests)?)
+        }
+        _ => unreachable!(),
+    }
+}
+
+/// Returns the tests and steps of a tally that compare a term with the place behind the tally.
+#[cycle(terms)]
+fn lefts_over(
+    alloc: Global,
+    kind: Tally,
+    operator: Operator,
+    a: &Term,
+    sizes: Sizes,
+    loops: &[u32],
+    lets: u32,
+    depth: u32,
+) -> Result<Vec<Insn>, CompileError>
+    requires some { 1 ≤ sizes.nodes }
+    requires few { sizes.nodes ≤ 64 }
+    requires memory { sizes.memory ≤ 256 }
+    requires deep { depth + 1 < PLACES }
+    requires fits { Fits a.now sizes (length loops.now + 1) lets (depth + 2) }
+    ensures code { IfOk result (λ made. made.items ≡ tests_code kind depth sizes.nodes
+        (λ j. right_code operator (FromLocal (depth + 1)) (tally_test kind depth)
+        (term_code a.now sizes (loops.now ++ j ∷ []) (depth + 2) Value))) }
+    ensures long { IfErr result (IsUnmade (length (tests_code kind depth sizes.nodes
+        (λ j. right_code operator (FromLocal (depth + 1)) (tally_test kind depth)
+        (term_code a.now sizes (loops.now ++ j ∷ []) (depth + 2) Value))))) }
+{
+    let place = place_of(depth);
+    let skip = tally_test_of(kind, depth);
+    let mut codes = Vec::new(alloc);
+    for number in 0..sizes.nodes {
+        let inner = within(alloc, loops, number)?;
+        let left = term(alloc, a, sizes, &inner, lets, depth + 2, Purpose::Value)?;
+        let test = right_found(operator, Source::FromLocal(depth + 1), left, skip)?;
+        codes = short(tallied(codes, &test, kind, place, number)?)?;
+    }
+    Ok(codes)
 }
 
 /// Returns the code of the number at a place among the numbers of a term at all nodes in rising order, at a depth.

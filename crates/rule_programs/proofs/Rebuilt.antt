@@ -3,9 +3,9 @@ use Rattle.std.proofs.Common.{◌≡◌, ℕ, ◌+◌, ◌<◌, ◌≤◌, ◌&&
 use denote.RawPtr.{null_ptr}
 use Rattle.bpf_insn.specs.declared.forms.Insn.{Insn}
 use Rattle.rule_nodes.specs.Meaning.{apply_operator}
-use Rattle.rule_nodes.specs.Operands.{is_constant, is_fetched, is_local, is_operand, is_asked, is_steady, depth_behind, constant_number, fetched_source, term_source}
-use Rattle.rule_nodes.specs.Code.{number_place, by_value, by_test, binary_code, choice_code, decides, both_code, message_by, tallied_code, tally_code, tally_test, sorted_code, term_code, given_code, change_place, change_by, changing_insn, one_code, also_code, assignment_code, stored_code, send_all_code, send_to_constant_code, send_to_code, each_code, if_code, is_nothing, let_code, block_code, head_code, tail_code, rule_code}
-use Rattle.rule_nodes.specs.Fits.{HasPlace, Fits, TargetFits, AssignmentFits, BlockFits}
+use Rattle.rule_nodes.specs.Operands.{is_constant, is_fetched, is_local, is_operand, is_asked, is_steady, is_free, is_shared, depth_behind, constant_number, fetched_source, term_source}
+use Rattle.rule_nodes.specs.Code.{number_place, by_value, by_test, binary_code, choice_code, decides, both_code, message_by, tests_code, tallied_code, tally_code, tally_test, shared_code, sides_code, sorted_code, term_code, over_code, given_code, change_place, change_by, changing_insn, one_code, also_code, assignment_code, stored_code, send_all_code, send_to_constant_code, send_to_code, each_code, if_code, is_nothing, let_code, block_code, head_code, tail_code, rule_code}
+use Rattle.rule_nodes.specs.Fits.{HasPlace, SidesFit, Fits, TargetFits, AssignmentFits, BlockFits}
 use Rattle.rule_syntax.specs.declared.syntax.Operator.{Operator}
 use Rattle.rule_syntax.specs.declared.syntax.Operator.TheVariants.{Compute, Compare}
 use Rattle.rule_syntax.specs.declared.syntax.Sizes.{Sizes}
@@ -15,6 +15,7 @@ use Rattle.rule_nodes.specs.declared.numbers.TheConstants.{PLACES}
 use Rattle.rule_nodes.specs.declared.numbers.Purpose.{Purpose}
 use Rattle.rule_nodes.specs.declared.numbers.Purpose.TheVariants.{Value, Jump}
 use Rattle.rule_nodes.specs.declared.numbers.Source.TheVariants.{Constant}
+use Rattle.rule_nodes.specs.declared.numbers.Tally.{Tally}
 use Rattle.rule_nodes.specs.declared.numbers.Tally.TheVariants.{HowMany, LeastMessage}
 use Rattle.rule_syntax.specs.declared.syntax.Assignment.{Assignment}
 use Rattle.rule_syntax.specs.declared.syntax.Assignment.TheVariants.{One, Also'}
@@ -101,6 +102,36 @@ source_same g t z J = λ k. if constant_same g t k then Constant (number_same g 
 
 -- ---- terms
 
+free_same : (g : Global) (t : Term) (i : ℕ) → is_free t i ≡ is_free (lifted g t) i
+free_same g (Message' p a) i = free_same g a i
+free_same g (Binary' o p a q b) i = λ k. free_same g a i k && free_same g b i k
+free_same g (Logical' c p a q b) i = λ k. free_same g a i k && free_same g b i k
+free_same g (Not' p a) i = free_same g a i
+free_same g (Choice' p t q a r b) i = λ k. free_same g t i k && (free_same g a i k && free_same g b i k)
+free_same g (Count' p t) i = free_same g t i
+free_same g (Least' p t) i = free_same g t i
+free_same g (Sorted' p a q b) i = λ k. free_same g a i k && free_same g b i k
+free_same g Me i = refl
+free_same g _ i = refl
+
+shared_same : (g : Global) (o : Operator) (a b : Term) (i : ℕ) → is_shared o a b i ≡ is_shared o (lifted g a) (lifted g b) i
+shared_same g (Compute op) a b i = refl
+shared_same g (Compare r) a b i = λ k. not (operand_same g a k || operand_same g b k) && free_same g b i k
+
+-- the tests of an operator between two terms
+sides_same : (g : Global) (tally : Tally) (o : Operator) (a b : Term) (z : Sizes) (J : List ℕ) (d : ℕ)
+    → ((I : List ℕ) (e : ℕ) → term_code a z I e Value ≡ term_code (lifted g a) z I e Value)
+    → ((I : List ℕ) (e : ℕ) → term_code b z I e Value ≡ term_code (lifted g b) z I e Value)
+    → sides_code tally o a b z J d (λ I e. term_code a z I e Value) (λ I e. term_code b z I e Value)
+    ≡ sides_code tally o (lifted g a) (lifted g b) z J d (λ I e. term_code (lifted g a) z I e Value)
+    (λ I e. term_code (lifted g b) z I e Value)
+sides_same g tally o a b z J d left right =
+    λ k. if shared_same g o a b (length J) k
+    then shared_code tally d z.nodes o (right (J ++ 0 ∷ []) (d + 1) k) (λ j. left (J ++ j ∷ []) (d + 2) k)
+    else tests_code tally d z.nodes (λ j. binary_code (source_same g b z (J ++ j ∷ []) k)
+    (source_same g a z (J ++ j ∷ []) k) o (d + 1) (tally_test tally d) (left (J ++ j ∷ []) (d + 1) k)
+    (right (J ++ j ∷ []) (depth_behind (operand_same g a k || operand_same g b k) (d + 1)) k))
+
 code_same : (g : Global) (t : Term) (z : Sizes) (J : List ℕ) (d : ℕ) (purpose : Purpose)
     → term_code t z J d purpose ≡ term_code (lifted g t) z J d purpose
 code_same g (Message' p a) z J d purpose =
@@ -119,12 +150,18 @@ code_same g (Not' p a) z J d purpose = λ k. by_test purpose (λ when far. code_
 code_same g (Choice' p t q a r b) z J d purpose =
     λ k. by_value purpose (choice_code (λ far. code_same g t z J d (Jump false far) k) (code_same g a z J d Value k)
     (code_same g b z J d Value k))
+code_same g (Count' p (Binary' o q a r b)) z J d purpose =
+    let tests = sides_same g HowMany o a b z J d (λ I e. code_same g a z I e Value) (λ I e. code_same g b z I e Value) in
+    λ k. by_value purpose (tally_code HowMany d (tests k))
 code_same g (Count' p t) z J d purpose =
-    λ k. by_value purpose
-    (tally_code HowMany d z.nodes (λ j. code_same g t z (J ++ j ∷ []) (d + 1) (tally_test HowMany d) k))
+    λ k. by_value purpose (tally_code HowMany d
+    (tests_code HowMany d z.nodes (λ j. code_same g t z (J ++ j ∷ []) (d + 1) (tally_test HowMany d) k)))
+code_same g (Least' p (Binary' o q a r b)) z J d purpose =
+    let tests = sides_same g LeastMessage o a b z J d (λ I e. code_same g a z I e Value) (λ I e. code_same g b z I e Value) in
+    λ k. by_value purpose (tally_code LeastMessage d (tests k))
 code_same g (Least' p t) z J d purpose =
-    λ k. by_value purpose
-    (tally_code LeastMessage d z.nodes (λ j. code_same g t z (J ++ j ∷ []) (d + 1) (tally_test LeastMessage d) k))
+    λ k. by_value purpose (tally_code LeastMessage d
+    (tests_code LeastMessage d z.nodes (λ j. code_same g t z (J ++ j ∷ []) (d + 1) (tally_test LeastMessage d) k)))
 code_same g (Sorted' p a q b) z J d purpose =
     λ k. by_value purpose
     (sorted_code (number_same g a z J k) d z.nodes (λ j. code_same g b z (J ++ j ∷ []) (d + j) Value k))
@@ -144,7 +181,13 @@ fits_same g (Logical' c p a q b) z loops lets d = λ k. fits_same g a z loops le
 fits_same g (Not' p a) z loops lets d = fits_same g a z loops lets d
 fits_same g (Choice' p t q a r b) z loops lets d =
     λ k. fits_same g t z loops lets d k × fits_same g a z loops lets d k × fits_same g b z loops lets d k
+fits_same g (Count' p (Binary' o q a r b)) z loops lets d =
+    λ k. (d < PLACES) × SidesFit (shared_same g o a b loops k) (operand_same g a k || operand_same g b k) d
+    (λ e. fits_same g a z (loops + 1) lets e k) (λ e. fits_same g b z (loops + 1) lets e k)
 fits_same g (Count' p t) z loops lets d = λ k. (d < PLACES) × fits_same g t z (loops + 1) lets (d + 1) k
+fits_same g (Least' p (Binary' o q a r b)) z loops lets d =
+    λ k. (d < PLACES) × SidesFit (shared_same g o a b loops k) (operand_same g a k || operand_same g b k) d
+    (λ e. fits_same g a z (loops + 1) lets e k) (λ e. fits_same g b z (loops + 1) lets e k)
 fits_same g (Least' p t) z loops lets d = λ k. (d < PLACES) × fits_same g t z (loops + 1) lets (d + 1) k
 fits_same g (Sorted' p a q b) z loops lets d =
     λ k. (constant_same g a k ≡ true) × fits_same g a z loops lets d k × (d + z.nodes ≤ PLACES)
@@ -207,13 +250,19 @@ nothing_same : (g : Global) (s : Statement) → is_nothing s ≡ is_nothing (lif
 nothing_same g Nothing = refl
 nothing_same g _ = refl
 
+over_same : (g : Global) (tally : Tally) (t : Term) (z : Sizes) (J : List ℕ) (d : ℕ)
+    → over_code tally t z J d ≡ over_code tally (lifted g t) z J d
+over_same g tally (Binary' o q a r b) z J d =
+    sides_same g tally o a b z J d (λ I e. code_same g a z I e Value) (λ I e. code_same g b z I e Value)
+over_same g tally t z J d =
+    λ k. tests_code tally d z.nodes (λ j. code_same g t z (J ++ j ∷ []) (d + 1) (tally_test tally d) k)
+
 let_same : (g : Global) (e : Term) (z : Sizes) (J : List ℕ) (d : ℕ) (rest after : List Insn) → rest ≡ after
     → let_code e z J d rest ≡ let_code (lifted g e) z J d after
 let_same g (Count' p t) z J d rest after same =
-    λ k. tallied_code HowMany d z.nodes (λ j. code_same g t z (J ++ j ∷ []) (d + 1) (tally_test HowMany d) k) ++ same k
+    λ k. tallied_code HowMany d (over_same g HowMany t z J d k) ++ same k
 let_same g (Least' p t) z J d rest after same =
-    λ k. tallied_code LeastMessage d z.nodes
-    (λ j. code_same g t z (J ++ j ∷ []) (d + 1) (tally_test LeastMessage d) k) ++ same k
+    λ k. tallied_code LeastMessage d (over_same g LeastMessage t z J d k) ++ same k
 let_same g e z J d rest after same = λ k. stored_code (source_same g e z J k) d (code_same g e z J d Value k) (same k)
 
 block_same : (g : Global) (s : Statement) (z : Sizes) (J : List ℕ) (d : ℕ)

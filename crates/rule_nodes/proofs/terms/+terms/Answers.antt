@@ -1,10 +1,12 @@
-use Rattle.std.proofs.Common.{◌≡◌, ◌+◌, ◌<◌, ◌≤◌, IfOk, List, length, subst, ap, arith, refl, rules}
+use Rattle.std.proofs.Common.{◌≡◌, ◌+◌, ◌<◌, ◌≤◌, ◌∙◌, IfOk, List, length, subst, sym, ap, arith, refl, rules}
 use Rattle.rule_nodes.specs.declared.numbers.TheConstants.{PLACES}
 use Rattle.bpf_insn.specs.declared.forms.Insn.{Insn}
-use Rattle.rule_nodes.specs.Code.{term_code}
-use Rattle.rule_nodes.proofs.Lengths.{error_longer, passed_on, message_part, left_part, right_part, left_within, right_within, count_part, least_part, sorted_part, test_part, tests_part, item_part, items_part}
+use Rattle.rule_nodes.specs.Code.{term_code, over_code}
+use Rattle.rule_nodes.proofs.Lengths.{error_longer, passed_on, message_part, left_part, right_part, left_within, right_within, count_part, least_part, sorted_part, test_part, tests_part, left_in_tests, plain_part, shared_part, second_part, first_part, inverse_part, otherwise_part, chosen_part, choosing_part, item_part, items_part}
 use Rattle.rule_nodes.proofs.FitsLess.{item_fits}
-use Rattle.rule_nodes.proofs.Loops.{tally_kept, count_made, least_made, items_kept, sorted_made}
+use Rattle.rule_nodes.proofs.Loops.{tally_kept, left_kept, shared_made, tally_done, count_made, least_made, items_kept, sorted_made}
+use Rattle.rule_nodes.proofs.Shared.{plain_code, count_needs, least_needs, count_smaller, least_smaller}
+use Rattle.rule_nodes.proofs.terms.+terms.Goals.{tally_over-then-shares_side_of+in_ok-tests, tally_over-else-shares_side_of+in_ok-tests-2}
 use Rattle.rule_nodes.proofs.terms.+terms.Goals as goal
 
 pub term-returns-in_err-index-in-Message-clause-long : goal.term-returns-in_err-index-in-Message-clause-long
@@ -78,21 +80,77 @@ term-returns-in_ok-by_value_of-in-Least-clause-long t c =
     c.args.loops.now c.args.depth c.args.purpose) = ap length total in
     error_longer c.short-in-Least.result _ _ (omega (arith, same)) c.short-in-Least.ensures.long
 
-pub tally_over-returns-in_err-test-clause-long : goal.tally_over-returns-in_err-test-clause-long
-tally_over-returns-in_err-test-clause-long t c =
+pub term-tally_over-requires : goal.term-tally_over-requires
+term-tally_over-requires t c = (
+  omega (arith, count_smaller c.args.t.now _ _ _ c.in-Count.is c.deref-in-Count.ensures),
+  (
+    c.requires.some,
+    (
+      c.requires.few,
+      (
+        c.requires.memory,
+        (
+          c.requires.deep,
+          count_needs c.args.t.now _ _ _ c.args.sizes (length c.args.loops.now) c.args.lets c.args.depth c.in-Count.is
+              c.deref-in-Count.ensures c.requires.fits,
+        ),
+      ),
+    ),
+  ),
+)
+
+pub term-tally_over-requires-in-Least : goal.term-tally_over-requires-in-Least
+term-tally_over-requires-in-Least t c = (
+  omega (arith, least_smaller c.args.t.now _ _ _ c.in-Least.is c.deref-in-Least.ensures),
+  (
+    c.requires.some,
+    (
+      c.requires.few,
+      (
+        c.requires.memory,
+        (
+          c.requires.deep,
+          least_needs c.args.t.now _ _ _ c.args.sizes (length c.args.loops.now) c.args.lets c.args.depth c.in-Least.is
+              c.deref-in-Least.ensures c.requires.fits,
+        ),
+      ),
+    ),
+  ),
+)
+
+pub tests_over-returns-in_err-test-clause-long : goal.tests_over-returns-in_err-test-clause-long
+tests_over-returns-in_err-test-clause-long t c =
     passed_on c.from_residual-in_err-test.result c.in_err-test.field-0.0 _ _
     (test_part c.args.kind c.args.c.now c.args.c.now c.args.sizes c.args.loops.now _ _ c.args.depth _ _ c.tally_test_of-skip.ensures refl c.in_ok-inner.ensures
     c.deref.ensures.value c.loop-node-test.true) c.in_err-test.ensures.long
     c.from_residual-in_err-test.ensures.1
 
-pub tally_over-returns-in_err-codes-clause-long : goal.tally_over-returns-in_err-codes-clause-long
-tally_over-returns-in_err-codes-clause-long t c =
+pub tests_over-returns-in_err-codes-clause-long : goal.tests_over-returns-in_err-codes-clause-long
+tests_over-returns-in_err-codes-clause-long t c =
     let more : c.loop-node.node + 1 ≤ c.args.sizes.nodes = omega (arith, c.loop-node-test.true) in
     passed_on c.from_residual-in_err-codes.result c.in_err-codes.field-0.0 _ _
-    (tests_part c.args.kind c.args.c.now c.args.sizes c.args.loops.now c.args.depth _ _ more
+    (tests_part c.args.kind c.args.sizes c.args.depth _ _ _ more
     (tally_kept c.args.kind c.args.c.now c.args.c.now c.args.sizes c.args.loops.now _ _ c.args.depth _ _ _ _ _ _ _ c.place_of-place.ensures c.tally_test_of-skip.ensures refl
     c.in_ok-inner.ensures c.deref.ensures.value c.in_ok-test.ensures.code
     c.deref-in-loop-node.ensures.value c.in_ok-tallied.ensures c.loop-node.invariant.code))
+    c.in_err-codes.ensures.long c.from_residual-in_err-codes.ensures.1
+
+pub lefts_over-returns-in_err-left-clause-long : goal.lefts_over-returns-in_err-left-clause-long
+lefts_over-returns-in_err-left-clause-long t c =
+    passed_on c.from_residual-in_err-left.result c.in_err-left.field-0.0 _ _
+    (left_in_tests c.args.kind c.args.operator c.args.a.now c.args.sizes c.args.loops.now _ _ c.args.depth _
+    c.in_ok-inner.ensures c.deref.ensures.value c.loop-number-test.true) c.in_err-left.ensures.long
+    c.from_residual-in_err-left.ensures.1
+
+pub lefts_over-returns-in_err-codes-clause-long : goal.lefts_over-returns-in_err-codes-clause-long
+lefts_over-returns-in_err-codes-clause-long t c =
+    let more : c.loop-number.number + 1 ≤ c.args.sizes.nodes = omega (arith, c.loop-number-test.true) in
+    passed_on c.from_residual-in_err-codes.result c.in_err-codes.field-0.0 _ _
+    (tests_part c.args.kind c.args.sizes c.args.depth _ _ _ more
+    (left_kept c.args.kind c.args.operator c.args.a.now c.args.sizes c.args.loops.now _ _ c.args.depth _ _ _ _ _ _ _ _
+    c.place_of-place.ensures c.tally_test_of-skip.ensures c.in_ok-inner.ensures c.deref.ensures.value
+    c.in_ok-left.ensures.code c.in_ok-test.ensures c.deref-in-loop-number.ensures.value c.in_ok-tallied.ensures
+    c.loop-number.invariant.code))
     c.in_err-codes.ensures.long c.from_residual-in_err-codes.ensures.1
 
 pub sorted_at-term-requires : goal.sorted_at-term-requires
@@ -157,3 +215,73 @@ term-returns-in_ok-by_value_of-in-Sorted-clause-long t c =
     let same : length c.in_ok-by_value_of-in-Sorted.field-0.items ≡ length (term_code c.args.t.now c.args.sizes
     c.args.loops.now c.args.depth c.args.purpose) = ap length total in
     error_longer c.short-in-Sorted.result _ _ (omega (arith, same)) c.short-in-Sorted.ensures.long
+
+pub shared_over-returns-in_err-tests-in-Binary-clause-long : goal.shared_over-returns-in_err-tests-in-Binary-clause-long
+shared_over-returns-in_err-tests-in-Binary-clause-long t c =
+    passed_on c.from_residual-in_err-tests-in-Binary.result c.in_err-tests-in-Binary.field-0.0 _ _
+    (shared_part _ _ _ _ _ _ _ _ _ _ _ c.in-Binary.is c.deref-in-Binary-2.ensures c.requires.shared)
+    c.in_err-tests-in-Binary.ensures.long c.from_residual-in_err-tests-in-Binary.ensures.1
+
+pub shared_over-returns-clause-code : goal.shared_over-returns-clause-code
+shared_over-returns-clause-code t c =
+    shared_made _ _ _ _ _ _ _ _ _ _ _ _ _ _ _ _ _ _ c.in-Binary.is c.requires.shared c.in_ok-first-in-Binary.ensures
+    c.deref-in-Binary.ensures.value c.deref.ensures c.deref-in-Binary-2.ensures c.in_ok-right-in-Binary.ensures.code
+    c.in_ok-tests-in-Binary.ensures.code c.deref-in-Binary-3.ensures.value c.in_ok-kept_then-in-Binary.ensures
+
+pub tally_over-returns-in_err-tests-2-clause-long : goal.tally_over-returns-in_err-tests-2-clause-long
+tally_over-returns-in_err-tests-2-clause-long t c =
+    passed_on c.from_residual-in_err-tests-2.result c.in_err-tests-2.field-0.0 _ _
+    (plain_part c.args.kind c.args.c.now c.args.sizes c.args.loops.now c.args.depth
+    (sym c.shares_side_of.ensures ∙ c.if-shares_side_of.false)) c.in_err-tests-2.ensures.long
+    c.from_residual-in_err-tests-2.ensures.1
+
+pub tally_over-returns-clause-code : goal.tally_over-returns-clause-code
+tally_over-returns-clause-code t c =
+    let tests = over_code c.args.kind c.args.c.now c.args.sizes c.args.loops.now c.args.depth in
+    let is : c.if-shares_side_of.tests.items ≡ tests = elim c.if-shares_side_of.branch [
+      | tally_over-then-shares_side_of+in_ok-tests w ↦ ap (λ v. v.items) w.tests-is ∙ w.in_ok-tests.ensures.code
+      | tally_over-else-shares_side_of+in_ok-tests-2 w ↦
+          ap (λ v. v.items) w.tests-is ∙ w.in_ok-tests-2.ensures.code
+          ∙ sym (plain_code c.args.kind c.args.c.now c.args.sizes c.args.loops.now c.args.depth
+          (sym c.shares_side_of.ensures ∙ w.if-shares_side_of.false))
+    ] in
+    tally_done c.args.kind c.args.depth tests _ _ _ c.place_of.ensures (c.deref.ensures.value ∙ is) c.in_ok-tally_of.ensures
+
+pub term-returns-in_err-right-in-Logical-clause-long : goal.term-returns-in_err-right-in-Logical-clause-long
+term-returns-in_err-right-in-Logical-clause-long t c =
+    passed_on c.from_residual-in_err-right-in-Logical.result c.in_err-right-in-Logical.field-0.0 _ _
+    (second_part _ _ _ _ _ _ _ _ _ _ _ _ c.in-Logical.is c.deref-in-Logical.ensures c.test_of.ensures)
+    c.in_err-right-in-Logical.ensures.long c.from_residual-in_err-right-in-Logical.ensures.1
+
+pub term-returns-in_err-code-in-Not-clause-long : goal.term-returns-in_err-code-in-Not-clause-long
+term-returns-in_err-code-in-Not-clause-long t c =
+    passed_on c.from_residual-in_err-code-in-Not.result c.in_err-code-in-Not.field-0.0 _ _
+    (inverse_part _ _ _ _ _ _ _ _ _ c.in-Not.is c.deref-in-Not.ensures c.opposite_test.ensures)
+    c.in_err-code-in-Not.ensures.long c.from_residual-in_err-code-in-Not.ensures.1
+
+pub term-returns-in_err-left-in-Logical-clause-long : goal.term-returns-in_err-left-in-Logical-clause-long
+term-returns-in_err-left-in-Logical-clause-long t c =
+    passed_on c.from_residual-in_err-left-in-Logical.result c.in_err-left-in-Logical.field-0.0 _ _
+    (first_part _ _ _ _ _ _ _ _ _ _ _ _ _ _ _ c.in-Logical.is c.deref-in-Logical-3.ensures c.deref-in-Logical.ensures
+    c.test_of.ensures (c.deref-in-Logical-2.ensures.value ∙ c.in_ok-right-in-Logical.ensures.code)
+    c.first_test-first.ensures) c.in_err-left-in-Logical.ensures.long
+    c.from_residual-in_err-left-in-Logical.ensures.1
+
+pub term-returns-in_err-second-in-Choice-clause-long : goal.term-returns-in_err-second-in-Choice-clause-long
+term-returns-in_err-second-in-Choice-clause-long t c =
+    passed_on c.from_residual-in_err-second-in-Choice.result c.in_err-second-in-Choice.field-0.0 _ _
+    (otherwise_part _ _ _ _ _ _ _ _ _ _ _ _ c.in-Choice.is c.deref-in-Choice.ensures)
+    c.in_err-second-in-Choice.ensures.long c.from_residual-in_err-second-in-Choice.ensures.1
+
+pub term-returns-in_err-first-in-Choice-clause-long : goal.term-returns-in_err-first-in-Choice-clause-long
+term-returns-in_err-first-in-Choice-clause-long t c =
+    passed_on c.from_residual-in_err-first-in-Choice.result c.in_err-first-in-Choice.field-0.0 _ _
+    (chosen_part _ _ _ _ _ _ _ _ _ _ _ _ c.in-Choice.is c.deref-in-Choice-2.ensures)
+    c.in_err-first-in-Choice.ensures.long c.from_residual-in_err-first-in-Choice.ensures.1
+
+pub term-returns-in_err-test-in-Choice-clause-long : goal.term-returns-in_err-test-in-Choice-clause-long
+term-returns-in_err-test-in-Choice-clause-long t c =
+    passed_on c.from_residual-in_err-test-in-Choice.result c.in_err-test-in-Choice.field-0.0 _ _
+    (choosing_part _ _ _ _ _ _ _ _ _ _ _ _ _ _ _ c.in-Choice.is c.deref-in-Choice-3.ensures c.deref-in-Choice-2.ensures
+    (c.deref-in-Choice-4.ensures.value ∙ c.in_ok-first-in-Choice.ensures.code) c.skip_test.ensures)
+    c.in_err-test-in-Choice.ensures.long c.from_residual-in_err-test-in-Choice.ensures.1
