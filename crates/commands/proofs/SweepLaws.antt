@@ -1,5 +1,5 @@
 -- A run has one summary, and so seeds have one text of lines.
-use Rattle.std.proofs.Common.{◌≡◌, ℕ, zero, suc, ◌+◌, ◌<◌, List, [], ◌∷◌, Bool, length, slice_get, Option, Some, None, refl, ap, ap₂, sym, subst, ◌∙◌, arith, inl, inr}
+use Rattle.std.proofs.Common.{◌≡◌, ℕ, suc, ◌+◌, List, [], ◌∷◌, Bool, length, slice_get, Option, Some, None, refl, ap, ap₂, sym, subst, ◌∙◌, arith, inl, inr}
 use Rattle.std.proofs.lemmas.Bool.{cases_order}
 use Rattle.bench_core.specs.Told.{PulseTold}
 use Rattle.bench_workers.specs.Laws.{OneRun}
@@ -14,7 +14,7 @@ use Rattle.scenario_text.specs.declared.scenario.Scenario.{Scenario}
 use Rattle.scenario_text.specs.Views.{frame_of}
 use Rattle.std.specs.Prelude.{is_some}
 use Rattle.key_sweep.specs.Rows.{sweep_text}
-use Rattle.key_sweep.specs.Sweeps.{AreOfKeys, IsOfKey, Lines}
+use Rattle.key_sweep.specs.Sweeps.{IsOfKey, Lines}
 
 -- ---- the summary
 
@@ -58,20 +58,21 @@ one_of_key one_run s key m n h g =
 
 -- ---- the lines
 
--- two lists of one length whose entries have a property that one value at each place has are one list
-one_list : {A : Type 0} (P : ℕ → A → Type 0) → ((k : ℕ) (x y : A) → P k x → P k y → x ≡ y) → (xs ys : List A)
-    → ((k : ℕ) (x : A) → slice_get xs k ≡ Some x → P k x) → ((k : ℕ) (y : A) → slice_get ys k ≡ Some y → P k y)
+-- two lists of one length are one if their entries at each place are
+pub one_list : {A : Type 0} (P Q : ℕ → A → Type 0) → ((k : ℕ) (x y : A) → P k x → Q k y → x ≡ y) → (xs ys : List A)
+    → ((k : ℕ) (x : A) → slice_get xs k ≡ Some x → P k x) → ((k : ℕ) (y : A) → slice_get ys k ≡ Some y → Q k y)
     → length xs ≡ length ys → xs ≡ ys
-one_list P one [] [] f g e = refl
-one_list P one [] (y ∷ ys) f g e = absurd (omega (arith, e))
-one_list P one (x ∷ xs) [] f g e = absurd (omega (arith, e))
-one_list P one (x ∷ xs) (y ∷ ys) f g e =
+one_list P Q one [] [] f g e = refl
+one_list P Q one [] (y ∷ ys) f g e = absurd (omega (arith, e))
+one_list P Q one (x ∷ xs) [] f g e = absurd (omega (arith, e))
+one_list P Q one (x ∷ xs) (y ∷ ys) f g e =
     ap₂ (λ z zs. z ∷ zs) (one 0 x y (f 0 x refl) (g 0 y refl))
-    (one_list (λ k. P (suc k)) (λ k. one (suc k)) xs ys (λ k. f (suc k)) (λ k. g (suc k)) (omega (arith, e)))
+    (one_list (λ k. P (suc k)) (λ k. Q (suc k)) (λ k. one (suc k)) xs ys (λ k. f (suc k)) (λ k. g (suc k))
+    (omega (arith, e)))
 
 pub one_sweep : OneRun → (s : Scenario) (first count : ℕ) (text other : List ℕ) → Lines s first count text
     → Lines s first count other → text ≡ other
 one_sweep one_run s first count text other h g =
-    let same = one_list (λ k. IsOfKey s (first + k)) (λ k. one_of_key one_run s (first + k)) h.summaries g.summaries
-    h.each g.each (h.all ∙ sym g.all) in
+    let same = one_list (λ k. IsOfKey s (first + k)) (λ k. IsOfKey s (first + k))
+    (λ k. one_of_key one_run s (first + k)) h.summaries g.summaries h.each g.each (h.all ∙ sym g.all) in
     h.whole ∙ (ap (sweep_text first) same ∙ sym g.whole)

@@ -11,11 +11,12 @@ ghost use Rattle.command_answers.specs.Answer.{Answers, AnswersLeaving, SameAnsw
 ghost use Rattle.command_answers.specs.Left.{Left};
 ghost use Rattle.command_answers.specs.Image.{ReadsImage};
 ghost use Rattle.program_commands.specs.Verdict.{Judges, SameJudgement};
-ghost use Rattle.bench_scenario.specs.Runs.{ReportsRun};
+ghost use Rattle.bench_scenario.specs.Runs.{Reports, ReportsRun, ReportsVerdict};
 ghost use Rattle.key_sweep.specs.Sweeps.{Lines};
 ghost use Rattle.parameters.specs.declared.lines.LinesForm.{LinesForm};
 ghost use Rattle.run_lines.specs.Telling.{IsWholeText};
 ghost use Rattle.scenario_text.specs.declared.scenario.Scenario.{Scenario};
+ghost use Rattle.scenario_text.specs.Texts.{ReadsText};
 ghost use Rattle.commands.specs.Causes.{ReadingHasCause, StartingHasCause, ThreadsHaveCause, UnshapedReadsNothing, WritingHasCause};
 
 use bpf_asm::one_meaning;
@@ -83,6 +84,37 @@ pub fn one_sweep()
     ensures { (s : Scenario) (first count : ℕ) (text other : List ℕ) → Lines s first count text
         → Lines s first count other → text ≡ other }
 {
+    bench_workers::laws::one_run();
+}
+
+/// A text has at most one report, and one verdict on agreement: a run depends on the instructions of programs, which
+/// the text determines.
+pub fn one_report_of_text()
+    ensures line { (text line other : List ℕ) → Reports text line → Reports text other → line ≡ other }
+    ensures verdict { (text line other : List ℕ) (agrees verdict : Bool) → ReportsVerdict text line agrees
+        → ReportsVerdict text other verdict → (line ≡ other) × (agrees ≡ verdict) }
+{
+    scenario_text::laws::one_scenario();
+    bench_workers::laws::one_run();
+}
+
+/// A text has at most one text of JSON lines in a form, and one verdict on agreement.
+pub fn one_json_of_text()
+    ensures { (text : List ℕ) (s t : Scenario) (form : LinesForm) (told other : List ℕ) (agrees verdict : Bool)
+        → ReadsText text s → ReadsText text t → IsWholeText s form told agrees → IsWholeText t form other verdict
+        → (told ≡ other) × (agrees ≡ verdict) }
+{
+    scenario_text::laws::one_scenario();
+    bench_workers::laws::one_run();
+    bench_workers::laws::one_showing();
+}
+
+/// The seeds of a sweep of a text have at most one text of lines.
+pub fn one_sweep_of_text()
+    ensures { (text : List ℕ) (s t : Scenario) (first count : ℕ) (told other : List ℕ) → ReadsText text s
+        → ReadsText text t → Lines s first count told → Lines t first count other → told ≡ other }
+{
+    scenario_text::laws::one_scenario();
     bench_workers::laws::one_run();
 }
 
