@@ -17,6 +17,7 @@ mod json_values_example;
 mod linear_certificates_example;
 mod node_env_example;
 mod parameters_example;
+mod properties_example;
 mod requests_example;
 mod rule_c_example;
 mod rule_formulas_example;

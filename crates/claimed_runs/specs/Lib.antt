@@ -1,0 +1,4 @@
+pub mod Claims
+pub mod Runs
+pub mod Views
+pub mod inner

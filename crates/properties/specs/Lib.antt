@@ -1,0 +1,9 @@
+pub mod Names
+pub mod Pairs
+pub mod Views
+pub mod Verdicts
+pub mod Answers
+pub mod Claims
+pub mod Texts
+pub mod Laws
+pub mod inner
