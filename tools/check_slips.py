@@ -151,7 +151,7 @@ def named_texts(program):
     }
     found = {kind: [(it.name, it.read_text(encoding="utf-8")) for it in some] for kind, some in paths.items()}
     for name, text in found["scenario"]:
-        inner = re.findall(r"(?ms)^(?:text|clock) = '''\n(.*?)'''", text)
+        inner = re.findall(r'(?ms)^(?:program = "asm"\ntext|clock) = \'\'\'\n(.*?)\'\'\'', text)
         found["text"] += [(f"{name}:{number}", it) for number, it in enumerate(inner)]
     for path in sorted(examples.rglob("*.bpf")):
         found["text"].append((path.name, answer(program, ["dis"], path.read_bytes()).out.decode()))
