@@ -4,8 +4,8 @@
 
 Rules are those of examples/rules/, one of 2,048 lines and drawn ones. Each that compiles is verified, and run by `exec`
 in drawn cases: the memory that it leaves and what it sends must be those of tools/rule_meaning.py. Texts with drawn
-faults must be refused with the same error at the same place, or mean the same. The text that crates/clock_rule proves is
-that of examples/rules/clock.rule. --drawn draws so many rules; the gate tries fewer. PROGRAM is as for check_rows.py.
+faults must be refused with the same error at the same place, or mean the same. Each rule of examples/rules/ compiles for
+16 nodes, and all but two for 64. The text that crates/clock_rule proves is that of clock.rule. --drawn draws so many rules; the gate tries fewer. PROGRAM is as for check_rows.py.
 """
 import argparse
 import random
@@ -107,6 +107,9 @@ class Drawing:
         return text + "".join(self.statement(lets, targets, 0, 2) for _ in range(self.dice.randint(1, 4)))
 
 
+# The sizes at which each rule of examples/rules/ compiles, and those at which some are too long (docs/RULES.md, "Limits of
+# the compiler").
+SIZES, MOST_NODES, TOO_LONG = (4, 7, 10, 16), 64, ("king", "middle")
 # As many lines as a rule may have. One node is room enough for their code.
 LONGEST = "for j:\n    clock = j + 1\n" * 1024
 
@@ -151,6 +154,16 @@ def case_fault(program, image, text, sizes, case):
     left, sent = pulse(text.encode(), sizes, memory, mail)
     wanted = [f"memory {left.hex()}", f"sent {listed(sent)}"]
     return [] if got == wanted else [f"{words[1:]}: {got} in place of {wanted}:\n{text}"]
+
+
+def size_faults(program, row):
+    """Whether a rule of examples/rules/ doesn't compile where it should, or compiles where it shouldn't."""
+    (path,) = row
+    for nodes in (*SIZES, MOST_NODES):
+        words = ["compile", *options_of(sizes_of(nodes))]
+        is_long = answer(program, words, path.read_bytes()).out == b"refused rule TooLong\n"
+        if is_long != (nodes == MOST_NODES and path.stem in TOO_LONG):
+            yield f"{path.name} at {nodes} nodes: {'too long' if is_long else 'not too long'}"
 
 
 def refusal_of(text):
@@ -219,6 +232,8 @@ def main():
     found = proved_text_faults()
     found += on_all_processors(lambda row: list(rule_faults(program, row)), numbered)
     found += on_all_processors(lambda row: text_fault(program, row), [(text,) for text in texts])
+    paths = [(it,) for it in sorted(TOP.glob("examples/rules/*.rule"))]
+    found += on_all_processors(lambda row: list(size_faults(program, row)), paths)
     return tell("check_rules", {"rules": len(rules), "texts with faults": len(texts)}, found)
 
 
