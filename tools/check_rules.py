@@ -5,7 +5,8 @@
 Rules are those of examples/rules/, one of 2,048 lines and drawn ones. Each that compiles is verified, and run by `exec`
 in drawn cases: the memory that it leaves and what it sends must be those of tools/rule_meaning.py. Texts with drawn
 faults must be refused with the same error at the same place, or mean the same. Each rule of examples/rules/ compiles for
-16 nodes, and all but two for 64. The text that crates/clock_rule proves is that of clock.rule. --drawn draws so many rules; the gate tries fewer. PROGRAM is as for check_rows.py.
+16 nodes, and all but two for 64. The text that crates/clock_rule proves is that of clock.rule. --drawn draws so many
+rules; the gate tries fewer. PROGRAM is as for check_rows.py.
 """
 import argparse
 import random
