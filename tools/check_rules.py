@@ -161,10 +161,10 @@ def size_faults(program, row):
     """Whether a rule of examples/rules/ doesn't compile where it should, or compiles where it shouldn't."""
     (path,) = row
     for nodes in (*SIZES, MOST_NODES):
-        words = ["compile", *options_of(sizes_of(nodes))]
-        is_long = answer(program, words, path.read_bytes()).out == b"refused rule TooLong\n"
-        if is_long != (nodes == MOST_NODES and path.stem in TOO_LONG):
-            yield f"{path.name} at {nodes} nodes: {'too long' if is_long else 'not too long'}"
+        got = answer(program, ["compile", *options_of(sizes_of(nodes))], path.read_bytes())
+        is_long = nodes == MOST_NODES and path.stem in TOO_LONG
+        if got.out != b"refused rule TooLong\n" if is_long else got.status:
+            yield f"{path.name} at {nodes} nodes: status {got.status}, {got.out[:80]}"
 
 
 def refusal_of(text):
