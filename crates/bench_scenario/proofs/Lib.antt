@@ -11,6 +11,7 @@ mod NoisyLemmas
 mod RowLemmas
 mod RuleLaws
 pub mod RunLemmas
+pub mod SameScenarios
 mod SayLengths
 mod StreamLemmas
 mod VerdictLaws

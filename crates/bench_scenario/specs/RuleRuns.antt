@@ -6,7 +6,7 @@ use Rattle.rule_syntax.specs.declared.syntax.Statement.{Statement}
 use Rattle.rule_nodes.specs.Code.{rule_code}
 use Rattle.rule_nodes.specs.Ends.{AreSizes}
 use Rattle.rule_nodes.specs.Fits.{BlockFits}
-use Rattle.rule_nodes.specs.Meaning.{NodeState, pulse}
+use Rattle.rule_meaning.specs.Meaning.{NodeState, pulse}
 use Rattle.bench_core.specs.Setup.{Setup, IsSetup}
 use Rattle.bench_core.specs.State.{State, new_state, node_at, mail_from, setting_at, coins_of}
 use Rattle.bench_core.specs.Pulse.{Pulse}

@@ -4,7 +4,7 @@ use Rattle.std.specs.List.{list_all}
 use Rattle.std.specs.declared.alloc.Global.{Global}
 use Rattle.std.specs.Fmt.{decimal}
 use Rattle.rule_text.specs.Errors.{error_name}
-use Rattle.claim_text.specs.Errors.{claim_error_name}
+use Rattle.claim_tokens.specs.Errors.{claims_refusal_line}
 use Rattle.certified_steps.specs.declared.errors.Unproved.{Unproved}
 use Rattle.certified_steps.specs.declared.errors.Unproved.TheVariants as whys
 use Rattle.step_searches.specs.declared.covered.Uncovered.TheVariants.{Least, Sorted, Loop, Receiver, Name}
@@ -72,8 +72,7 @@ certificate_text (TooDeep number) = codes "TooDeep word " ++ decimal number
 -- the line of a refusal, without its end
 abbrev pub proof_refusal_line : Refusal → List ℕ
 proof_refusal_line (Rule error line column) = codes "refused rule " ++ (error_name error ++ claim_place_text line column)
-proof_refusal_line (Claims error line column) =
-    codes "refused claims " ++ (claim_error_name error ++ claim_place_text line column)
+proof_refusal_line (Claims error line column) = claims_refusal_line error line column
 proof_refusal_line (Certificates error) = codes "refused certificate " ++ certificate_text error
 
 abbrev pub proved_text : Result (Vec Answer Global) Refusal → List ℕ

@@ -5,6 +5,7 @@ ghost use Rattle.claim_commands.specs.Prove.{answer_lines, certificate_text, is_
 
 use certified_steps::Unproved;
 use claim_proofs::{Answer, CertificateError, Outcome, Refusal};
+use claim_tokens::ClaimsRefusal;
 use std::alloc::AllocError;
 use std::fmt;
 use step_searches::Uncovered;
@@ -101,8 +102,12 @@ impl fmt::Display for RefusalLine {
                 line,
                 column,
             } => {
-                let name = error.name();
-                write!(f, "refused claims {name} line {line} column {column}")
+                let refusal = ClaimsRefusal {
+                    error,
+                    line,
+                    column,
+                };
+                write!(f, "{refusal}")
             }
             Refusal::Certificates(error) => {
                 let text = CertificateText(error);

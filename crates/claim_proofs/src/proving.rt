@@ -7,7 +7,8 @@ ghost use Rattle.rule_text.specs.Statements.{rule_read};
 
 use crate::reader::{CertificateError, NoCertificates, StepProof, read_certificates};
 use certified_steps::{Unproved, step_holds};
-use claim_text::{ClaimError, ClaimedStep, ReadClaimsError, read_claims};
+use claim_text::{ClaimedStep, read_claims};
+use claim_tokens::{ClaimError, ReadClaimsError};
 use rule_text::{ReadRuleError, Rule, RuleError, read_rule};
 use std::alloc::Global;
 use step_beginnings::begins;

@@ -1,6 +1,6 @@
 //! Sums of quantities, with whole numbers as coefficients.
 
-use crate::errors::ClaimError;
+use claim_tokens::ClaimError;
 use std::alloc::{AllocError, Global};
 use step_searches::{Quantity, Total};
 

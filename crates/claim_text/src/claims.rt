@@ -2,12 +2,11 @@
 
 use crate::amounts::{Amount, NoAmount};
 use crate::conditions::{at_most, both};
-use crate::errors::{ClaimError, ReadClaimsError};
-use crate::reader::{Bookmark, Reader};
 use crate::terms::{Parameter, Scope, Terms, Words};
-use crate::token::{Kind, Sign, Span, Token};
+use claim_tokens::{
+    Bookmark, ClaimError, Kind, ReadClaimsError, Reader, Sign, Span, Token, in_one_line,
+};
 use std::alloc::Global;
-use std::str;
 use step_searches::{Coins, Condition, Quantity, Step};
 
 /// A step of a text, with its line and its text there.
@@ -137,21 +136,6 @@ fn all_of(alloc: Global, mut parts: Vec<Condition>) -> Result<Condition, NoAmoun
         joined = both(alloc, part, joined)?;
     }
     Ok(joined)
-}
-
-/// Returns a part of a text with one space between words.
-fn in_one_line(alloc: Global, bytes: &[u8]) -> Result<String, ReadClaimsError> {
-    let mut line = String::new(alloc);
-    let Ok(text) = str::from_utf8(bytes) else {
-        return Ok(line);
-    };
-    for word in text.split_whitespace() {
-        if !line.is_empty() {
-            line.push_str(" ")?;
-        }
-        line.push_str(word)?;
-    }
-    Ok(line)
 }
 
 impl<'a> Claims<'a> {

@@ -3,7 +3,6 @@
 //!
 //! - `read_claims` returns the steps of a text, or its first error with line and column.
 //! - `ClaimedStep` has a step as data, with its line and its text.
-//! - `ClaimError` says what is wrong.
 //!
 //! ```
 //! use claim_text::read_claims;
@@ -17,10 +16,6 @@
 mod amounts;
 mod claims;
 mod conditions;
-mod errors;
-mod reader;
 mod terms;
-mod token;
 
 pub use claims::{ClaimedStep, read_claims};
-pub use errors::{ClaimError, ReadClaimsError};

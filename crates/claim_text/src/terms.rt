@@ -2,9 +2,7 @@
 
 use crate::amounts::{Amount, NoAmount};
 use crate::conditions::{Comparison, Test, Value, and, as_test, compared, not, or};
-use crate::errors::{ClaimError, ReadClaimsError};
-use crate::reader::Reader;
-use crate::token::{Kind, Sign, Span, Token};
+use claim_tokens::{ClaimError, Kind, ReadClaimsError, Reader, Sign, Span, Token};
 use std::alloc::Global;
 use step_searches::Quantity;
 

@@ -7,7 +7,7 @@ use Rattle.clock_nodes.specs.Rule.{pair_from}
 use Rattle.rule_syntax.specs.declared.syntax.Operation.TheVariants.{Sum, Difference, Remainder}
 use Rattle.rule_syntax.specs.declared.syntax.Sizes.{Sizes}
 use Rattle.rule_syntax.specs.declared.syntax.Target.TheVariants.{ToWord}
-use Rattle.rule_nodes.specs.Meaning.{NodeState, apply, bit_of, truth, word_at, assigned}
+use Rattle.rule_meaning.specs.Meaning.{NodeState, apply, bit_of, truth, word_at, assigned}
 use Rattle.clock_rule.specs.Clock.{new_pair}
 use Rattle.clock_rule.proofs.FormMeaning.{form_after}
 

@@ -13,7 +13,7 @@ use Rattle.clock_nodes.proofs.Pairs.{clock_small, pair_small}
 use Rattle.clock_nodes.proofs.Runs.{nothing_sent, sent_next}
 use Rattle.rule_syntax.specs.declared.syntax.Sizes.{Sizes}
 use Rattle.rule_syntax.specs.declared.syntax.Statement.{Statement}
-use Rattle.rule_nodes.specs.Meaning.{NodeState, bit_of, truth, count_below, word_at, with_memory_word, message_from, with_local, sent_below, initial_state, pulse}
+use Rattle.rule_meaning.specs.Meaning.{NodeState, bit_of, truth, count_below, word_at, with_memory_word, message_from, with_local, sent_below, initial_state, pulse}
 use Rattle.rule_nodes.specs.Ends.{sizes_of}
 use Rattle.rule_nodes.proofs.Words.{word_loaded, word_stored}
 use Rattle.rule_text.specs.Forms.{statement_form}

@@ -4,7 +4,7 @@ ghost use Rattle.node_env.specs.Env.{IsSetting, Setting};
 ghost use Rattle.clock_nodes.specs.Rule.{IsRule, pair_after, with_pair};
 ghost use Rattle.clock_nodes.specs.Ends.{IsSentTo};
 ghost use Rattle.rule_syntax.specs.declared.syntax.Statement.{Statement};
-ghost use Rattle.rule_nodes.specs.Meaning.{pulse};
+ghost use Rattle.rule_meaning.specs.Meaning.{pulse};
 ghost use Rattle.rule_nodes.specs.Ends.{sizes_of};
 ghost use Rattle.rule_text.specs.Forms.{statement_form};
 ghost use Rattle.rule_text.specs.Statements.{rule_read};

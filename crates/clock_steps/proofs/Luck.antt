@@ -8,7 +8,7 @@ use Rattle.node_env.specs.Env.{Setting}
 use Rattle.clock_nodes.specs.Rule.{pair_from}
 use Rattle.rule_syntax.specs.declared.syntax.Sizes.{Sizes}
 use Rattle.rule_syntax.specs.declared.syntax.Statement.{Statement}
-use Rattle.rule_nodes.specs.Meaning.{word_at}
+use Rattle.rule_meaning.specs.Meaning.{word_at}
 use Rattle.rule_text.specs.Forms.{statement_form}
 use Rattle.clock_rule.specs.Clock.{clock_statement}
 use Rattle.quorums.specs.Counts.{SomeNode, HasFewFaults}

@@ -13,7 +13,7 @@ use Rattle.clock_nodes.proofs.Pairs.{pair_small}
 use Rattle.rule_syntax.specs.declared.syntax.Operation.TheVariants.{Sum, Difference, Remainder}
 use Rattle.rule_syntax.specs.declared.syntax.Sizes.{Sizes}
 use Rattle.rule_syntax.specs.declared.syntax.Statement.{Statement}
-use Rattle.rule_nodes.specs.Meaning.{NodeState, apply, bit_of, truth, count_below, word_at, with_memory_word, message_from, with_local, sent_below, initial_state, pulse}
+use Rattle.rule_meaning.specs.Meaning.{NodeState, apply, bit_of, truth, count_below, word_at, with_memory_word, message_from, with_local, sent_below, initial_state, pulse}
 use Rattle.rule_nodes.proofs.Words.{word_loaded, word_stored, word_length, word_bytes}
 use Rattle.rule_text.specs.Forms.{statement_form}
 use Rattle.clock_rule.specs.Clock.{clock_statement, new_pair}

@@ -7,7 +7,7 @@ use Rattle.node_env.specs.Env.{Setting}
 use Rattle.clock_nodes.specs.Rule.{pair_from}
 use Rattle.rule_syntax.specs.declared.syntax.Sizes.{Sizes}
 use Rattle.rule_syntax.specs.declared.syntax.Statement.{Statement}
-use Rattle.rule_nodes.specs.Meaning.{bit_of, truth, word_at, message_from}
+use Rattle.rule_meaning.specs.Meaning.{bit_of, truth, word_at, message_from}
 use Rattle.rule_text.specs.Forms.{statement_form}
 use Rattle.clock_rule.specs.Clock.{clock_statement}
 use Rattle.clock_rule.proofs.Choice.{truth_of}

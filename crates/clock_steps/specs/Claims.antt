@@ -1,7 +1,7 @@
 -- The claims of the clock: its sizes, and sets of two correct nodes p and q.
 use Rattle.std.specs.Prelude.{ℕ, ◌+◌, ◌-◌, ◌*◌, ◌==◌, nat_lt, nat_le, ◌&&◌, ◌||◌, Bool, true}
 use Rattle.rule_syntax.specs.declared.syntax.Sizes.{Sizes}
-use Rattle.rule_nodes.specs.Meaning.{word_at}
+use Rattle.rule_meaning.specs.Meaning.{word_at}
 use Rattle.rule_steps.specs.Steps.{Between, Claim}
 
 -- there are more nodes than this

@@ -12,6 +12,7 @@ use Rattle.command_line.specs.declared.request.Invocation.{Invocation}
 use Rattle.command_words.specs.declared.options.TheConstants.{COIN, FAULTS, FROM, FUEL, ID, LOADERS, LOADS, MEMORY, MODULUS}
 use Rattle.command_words.specs.declared.options.TheConstants.{NODES, PULSES, STRESS_WORKERS, SWEEPERS, UNTIL, WORKERS}
 use Rattle.requests.specs.declared.case.Case.{Case}
+use Rattle.requests.specs.declared.request.ClaimedRunOptions.{ClaimedRunOptions}
 use Rattle.requests.specs.declared.request.ClockOptions.{ClockOptions}
 use Rattle.requests.specs.declared.request.CompileOptions.{CompileOptions}
 use Rattle.requests.specs.declared.request.CompiledForm.{CompiledForm}
@@ -133,6 +134,11 @@ pub record AsksLines (f : Found) (asked : LinesOptions) : Type 0 where
   pub format : AsksFormat f asked.form.format
   pub span : AsksSpan f asked.form.span
 
+-- the text of the properties by which the run is judged
+pub record AsksClaimedRun (f : Found) (asked : ClaimedRunOptions) : Type 0 where
+  pub run : AsksRun f asked.run
+  pub claims : first_value f (codes "claims") ≡ Some (string_bytes asked.claims)
+
 abbrev pub AsksSweep : Found → SweepOptions → Type 0
 AsksSweep f asked = ((text : List ℕ) × (first_value f (codes "keys") ≡ Some text) × IsKeys text asked.keys)
     × OptionHasNumber 32 f SWEEPERS.name.now asked.workers
@@ -153,12 +159,18 @@ pub record AsksProve (f : Found) (asked : ProveOptions) : Type 0 where
 abbrev pub IsUntraced : Found → Type 0
 IsUntraced f = first_value f (codes "trace") ≡ None
 
+-- no file of properties is given
+abbrev pub IsUnclaimed : Found → Type 0
+IsUnclaimed f = first_value f (codes "claims") ≡ None
+
 -- what a command that reads a scenario is asked for
 abbrev pub AsksOfScenario : List ℕ → Found → ScenarioRequest → Type 0
 AsksOfScenario name f (scenarios.Run asked) =
-    (name ≡ codes "run") × IsUntraced f × AsksReport f × AsksRun f asked
+    (name ≡ codes "run") × IsUntraced f × IsUnclaimed f × AsksReport f × AsksRun f asked
 AsksOfScenario name f (scenarios.Lines asked) =
-    (name ≡ codes "run") × IsUntraced f × AsksLines f asked
+    (name ≡ codes "run") × IsUntraced f × IsUnclaimed f × AsksLines f asked
+AsksOfScenario name f (scenarios.ClaimedRun asked) =
+    (name ≡ codes "run") × IsUntraced f × AsksClaimedRun f asked
 AsksOfScenario name f (scenarios.TracedRun place) = (name ≡ codes "run") × OptionHasPlace f (codes "trace") place
 AsksOfScenario name f (scenarios.NodeProgram asked) =
     (name ≡ codes "dis") × OptionHasPlace f (codes "node") asked.place × HasFlag f (codes "list") asked.list

@@ -16,14 +16,15 @@ use clap::error::ErrorKind;
 use clap::{ArgMatches, Error};
 use command_words::options::{
     ALL, CHECK, CLAIMS_FILE, CLOCK, EXPLAIN, FAULTS, FROM, JSON, KEYS, LISTING, LOADERS, LOADS,
-    MEMORY, MODULUS, NODE, NODES, ODDS, PULSES, RULE_FILE, RULE_IN_C, RULE_LISTING, STRESS_WORKERS,
-    SWEEPERS, TEXT, TRACE, UNTIL, WORKERS,
+    MEMORY, MODULUS, NODE, NODES, ODDS, PROPERTIES_FILE, PULSES, RULE_FILE, RULE_IN_C,
+    RULE_LISTING, STRESS_WORKERS, SWEEPERS, TEXT, TRACE, UNTIL, WORKERS,
 };
 use command_words::{Helps, command_line};
 use requests::{
-    ClockOptions, ClockRule, CompileOptions, CompiledForm, Detail, ExplainOptions, KeySpan,
-    LineFormat, LinesForm, LinesOptions, NodeInPulse, NodeProgramOptions, ProveOptions, PulseSpan,
-    Request, RunOptions, ScenarioRequest, ShapeOptions, StressOptions, SweepOptions,
+    ClaimedRunOptions, ClockOptions, ClockRule, CompileOptions, CompiledForm, Detail,
+    ExplainOptions, KeySpan, LineFormat, LinesForm, LinesOptions, NodeInPulse, NodeProgramOptions,
+    ProveOptions, PulseSpan, Request, RunOptions, ScenarioRequest, ShapeOptions, StressOptions,
+    SweepOptions,
 };
 use std::alloc::{AllocError, Global};
 use std::convert::AsStr;
@@ -148,7 +149,7 @@ fn request_in(alloc: Global, name: &str, options: &ArgMatches<'_>) -> Result<Req
         "compile" => Ok(Request::Compile(compile_options(options))),
         "dis" => dis_request(options),
         "verify" => Ok(verify_request(options)),
-        "run" => run_request(options),
+        "run" => run_request(alloc, options),
         "stress" => Ok(Request::Stress(stress_options(options))),
         "prove" => Ok(Request::Prove(prove_options(alloc, options)?)),
         "explore" => Ok(Request::Scenario(ScenarioRequest::Explore(explore_options(
@@ -315,8 +316,8 @@ fn place_in(text: &str) -> Option<NodeInPulse>
     })
 }
 
-/// Returns a report, the run of a node in a pulse, or the lines of a span of pulses.
-fn run_request(options: &ArgMatches<'_>) -> Result<Request, OptionsFault>
+/// Returns a report, by properties where some are given, the run of a node in a pulse, or the lines of a span of pulses.
+fn run_request(alloc: Global, options: &ArgMatches<'_>) -> Result<Request, OptionsFault>
     ensures { IfOk result (Asks (codes "run") (found_of options.now)) }
 {
     if let Some(text) = options.get_str(TRACE.name) {
@@ -326,6 +327,13 @@ fn run_request(options: &ArgMatches<'_>) -> Result<Request, OptionsFault>
         };
     }
     let run = run_options(options);
+    if let Some(claims) = options.get_str(PROPERTIES_FILE.name) {
+        let claims = String::from_str(alloc, claims)?;
+        return Ok(Request::Scenario(ScenarioRequest::ClaimedRun(ClaimedRunOptions {
+            run,
+            claims,
+        })));
+    }
     let Some(format) = line_format(options) else {
         return Ok(Request::Scenario(ScenarioRequest::Run(run)));
     };

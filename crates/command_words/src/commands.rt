@@ -3,9 +3,9 @@
 use crate::options::{
     ALL, ASK, BYTES, CELLS, CHECK, CLAIMS_FILE, CLOCK, COIN, CONTENTS, DEPTH, EXPLAIN, FAULTS,
     FROM, FUEL, GRAPH, ID, IMAGES, INBOX, JSON, JSON_ANSWER, KEYS, LISTING, LOADERS, LOADS, MAIL,
-    MEBIBYTES, MEMORY, MODULUS, NODE, NODES, ODDS, PULSES, REACH, RULE_FILE, RULE_IN_C,
-    RULE_LISTING, SAID, SHOW, START, STATES, STEPS, STRESS_WORKERS, SWEEPERS, TEXT, TRACE, UNTIL,
-    WORKERS,
+    MEBIBYTES, MEMORY, MODULUS, NODE, NODES, ODDS, PROPERTIES_FILE, PULSES, REACH, RULE_FILE,
+    RULE_IN_C, RULE_LISTING, SAID, SHOW, START, STATES, STEPS, STRESS_WORKERS, SWEEPERS, TEXT,
+    TRACE, UNTIL, WORKERS,
 };
 use crate::rows::OptionRow::{Flag, Long, LongSpan, Number, Span, Text};
 use crate::rows::{CommandRow, NumberOption, OptionRow};
@@ -140,13 +140,14 @@ const VERIFY: [OptionRow; 5] = [
     Flag(ALL),
 ];
 
-const RUN: [OptionRow; 6] = [
+const RUN: [OptionRow; 7] = [
     Number(WORKERS),
     Flag(CHECK),
     Flag(JSON),
     Number(FROM),
     Number(UNTIL),
     Text(TRACE),
+    Text(PROPERTIES_FILE),
 ];
 
 const STRESS: [OptionRow; 4] = [

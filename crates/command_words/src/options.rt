@@ -254,6 +254,13 @@ pub const UNTIL: NumberOption<&str, u32> = NumberOption {
     ..FROM
 };
 
+/// `--claims` of `run`
+pub const PROPERTIES_FILE: TextOption = TextOption {
+    help: "File of properties: print for each pulse and for the run whether they hold",
+    excludes: &["json", "trace", "from", "until"],
+    ..CLAIMS_FILE
+};
+
 /// `--trace` of `run`
 pub const TRACE: TextOption = TextOption {
     name: "trace",

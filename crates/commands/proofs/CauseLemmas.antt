@@ -20,7 +20,7 @@ use Rattle.requests.specs.declared.request.ExecOptions.{ExecOptions}
 use Rattle.requests.specs.declared.request.Request.{Request}
 use Rattle.requests.specs.declared.request.Request.TheVariants.{Exec, Asm, Compile, Dis, Clock, Verify, Explain, Scenario, Prove, Stress, Help}
 use Rattle.requests.specs.declared.request.ScenarioRequest.{ScenarioRequest}
-use Rattle.requests.specs.declared.request.ScenarioRequest.TheVariants.{Run, Lines, TracedRun, NodeProgram, Sweep, Explore}
+use Rattle.requests.specs.declared.request.ScenarioRequest.TheVariants.{Run, Lines, ClaimedRun, TracedRun, NodeProgram, Sweep, Explore}
 use Rattle.requests.specs.declared.request.ShapeOptions.{ShapeOptions}
 use Rattle.program_commands.specs.Exec.{LeavesBy, LeavesSteps}
 use Rattle.program_commands.specs.Explained.{Explains}
@@ -46,6 +46,7 @@ thread_of_scenario : (asked : ScenarioRequest) (text : List ℕ) (old new : Opti
     → LeavesFor asked old new text (Err faults.Thread) → ScenarioNeedsThreads asked
 thread_of_scenario (Run asked) text old new left = tt
 thread_of_scenario (Lines asked) text old new left = tt
+thread_of_scenario (ClaimedRun asked) text old new left = tt
 thread_of_scenario (TracedRun asked) text old new (inl (s, reads, left)) = left.0
 thread_of_scenario (TracedRun asked) text old new (inr (inl (error, due, none))) = none
 thread_of_scenario (TracedRun asked) text old new (inr (inr (is, keeps))) = is

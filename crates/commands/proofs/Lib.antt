@@ -3,9 +3,7 @@ pub mod FrontLemmas
 pub mod LineLaws
 pub mod ReadingLemmas
 pub mod RunLemmas
-pub mod SameScenarios
 pub mod SameTexts
 pub mod StartLemmas
 pub mod SweepLaws
-pub mod UncountedRuns
 mod WritingLemmas

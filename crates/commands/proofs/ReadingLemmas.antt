@@ -11,7 +11,7 @@ use Rattle.requests.specs.declared.request.ExecOptions.{ExecOptions}
 use Rattle.requests.specs.declared.request.Request.{Request}
 use Rattle.requests.specs.declared.request.Request.TheVariants.{Exec, Asm, Compile, Dis, Clock, Verify, Explain, Scenario, Prove, Stress, Help}
 use Rattle.requests.specs.declared.request.ScenarioRequest.{ScenarioRequest}
-use Rattle.requests.specs.declared.request.ScenarioRequest.TheVariants.{Run, Lines, TracedRun, NodeProgram, Sweep, Explore}
+use Rattle.requests.specs.declared.request.ScenarioRequest.TheVariants.{Run, Lines, ClaimedRun, TracedRun, NodeProgram, Sweep, Explore}
 use Rattle.scenario_text.specs.declared.scenario.Scenario as scenarios
 use Rattle.program_commands.specs.Exec.{LeavesBy}
 use Rattle.commands.specs.Causes.{ReadingHasCause}
@@ -35,6 +35,8 @@ no_read_of_run : (asked : ScenarioRequest) (s : scenarios.Scenario) (old new : O
     → LeavesOf asked old new s (Err faults.Read) → ⊥
 no_read_of_run (Run asked) s old new none = none
 no_read_of_run (Lines asked) s old new none = none
+no_read_of_run (ClaimedRun asked) s old new (inl (ps, bounded, none)) = none
+no_read_of_run (ClaimedRun asked) s old new (inr (error, line, column, none)) = none
 no_read_of_run (TracedRun asked) s old new left = left.0
 no_read_of_run (NodeProgram asked) s old new left = left.0
 no_read_of_run (Sweep asked) s old new (inl none) = none

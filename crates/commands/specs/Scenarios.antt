@@ -8,9 +8,10 @@ use Rattle.command_answers.specs.declared.ending.Ending.{Ending}
 use Rattle.command_answers.specs.declared.ending.Ending.TheVariants.{Refused}
 use Rattle.command_answers.specs.declared.fault.Fault.{Fault}
 use Rattle.requests.specs.declared.request.ScenarioRequest.{ScenarioRequest}
-use Rattle.requests.specs.declared.request.ScenarioRequest.TheVariants.{Run, Lines, TracedRun, NodeProgram, Sweep, Explore}
+use Rattle.requests.specs.declared.request.ScenarioRequest.TheVariants.{Run, Lines, ClaimedRun, TracedRun, NodeProgram, Sweep, Explore}
 use Rattle.commands.specs.Explore.{LeavesExplored}
 use Rattle.command_answers.specs.Faults.{IsOutOfMemory}
+use Rattle.run_commands.specs.ClaimedRun.{LeavesClaimedRun}
 use Rattle.run_commands.specs.Lines.{LeavesLined}
 use Rattle.run_commands.specs.NodeProgram.{LeavesNodeProgram}
 use Rattle.command_answers.specs.Output.{Leaves, LeavesNothing}
@@ -22,6 +23,7 @@ use Rattle.run_commands.specs.TracedRun.{LeavesTracedRun}
 abbrev pub LeavesOf : ScenarioRequest → Option (List ℕ) → Option (List ℕ) → Scenario → Result Ending Fault → Type 0
 LeavesOf (Run asked) old new s ended = LeavesReported asked.check old new s ended
 LeavesOf (Lines asked) old new s ended = LeavesLined asked.run.check old new s asked.form ended
+LeavesOf (ClaimedRun asked) old new s ended = LeavesClaimedRun asked old new s ended
 LeavesOf (TracedRun asked) old new s ended = LeavesTracedRun old new asked s ended
 LeavesOf (NodeProgram asked) old new s ended = LeavesNodeProgram old new asked s ended
 LeavesOf (Sweep asked) old new s ended = LeavesSwept old new s asked.keys ended

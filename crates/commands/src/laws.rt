@@ -15,13 +15,19 @@ ghost use Rattle.bench_scenario.specs.Runs.{Reports, ReportsRun, ReportsVerdict}
 ghost use Rattle.key_sweep.specs.Sweeps.{Lines};
 ghost use Rattle.parameters.specs.declared.lines.LinesForm.{LinesForm};
 ghost use Rattle.run_lines.specs.Telling.{IsWholeText};
+ghost use Rattle.explored.specs.declared.options.ExploreOptions.{ExploreOptions};
+ghost use Rattle.exploration.specs.declared.answer.Found.{Found};
 ghost use Rattle.scenario_text.specs.declared.scenario.Scenario.{Scenario};
 ghost use Rattle.scenario_text.specs.Texts.{ReadsText};
+ghost use Rattle.scenario_explorer.specs.Explore.{Begins, IsFindingOf, bed_of};
+ghost use Rattle.scenario_explorer.specs.OneExploration.{AreConsistent, AskOfSame};
 ghost use Rattle.commands.specs.Causes.{ReadingHasCause, StartingHasCause, ThreadsHaveCause, UnshapedReadsNothing, WritingHasCause};
 
 use bpf_asm::one_meaning;
 use bpf_insn::one_reading;
 use bpf_machine::one_run;
+use scenario_explorer::one_exploration;
+use scenario_text::laws::one_scenario;
 
 /// Bytes have at most one answer under given options, but for the error of a text that means no program.
 pub fn one_answer()
@@ -87,15 +93,14 @@ pub fn one_sweep()
     bench_workers::laws::one_run();
 }
 
-/// A text has at most one report, and one verdict on agreement: a run depends on the instructions of programs, which
-/// the text determines.
+/// A text has at most one report, and one verdict on agreement: it reads as at most one scenario.
 pub fn one_report_of_text()
     ensures line { (text line other : List ℕ) → Reports text line → Reports text other → line ≡ other }
     ensures verdict { (text line other : List ℕ) (agrees verdict : Bool) → ReportsVerdict text line agrees
         → ReportsVerdict text other verdict → (line ≡ other) × (agrees ≡ verdict) }
 {
-    scenario_text::laws::one_scenario();
-    bench_workers::laws::one_run();
+    one_scenario();
+    one_report();
 }
 
 /// A text has at most one text of JSON lines in a form, and one verdict on agreement.
@@ -104,9 +109,8 @@ pub fn one_json_of_text()
         → ReadsText text s → ReadsText text t → IsWholeText s form told agrees → IsWholeText t form other verdict
         → (told ≡ other) × (agrees ≡ verdict) }
 {
-    scenario_text::laws::one_scenario();
-    bench_workers::laws::one_run();
-    bench_workers::laws::one_showing();
+    one_scenario();
+    one_text_of_lines();
 }
 
 /// The seeds of a sweep of a text have at most one text of lines.
@@ -114,8 +118,20 @@ pub fn one_sweep_of_text()
     ensures { (text : List ℕ) (s t : Scenario) (first count : ℕ) (told other : List ℕ) → ReadsText text s
         → ReadsText text t → Lines s first count told → Lines t first count other → told ≡ other }
 {
-    scenario_text::laws::one_scenario();
-    bench_workers::laws::one_run();
+    one_scenario();
+    one_sweep();
+}
+
+/// Two answers of `explore` on one text are consistent, if the adversary's messages and the starts are the same, as
+/// `scenario_explorer::one_exploration` says of two answers on one scenario.
+pub fn one_exploration_of_text()
+    ensures { (text : List ℕ) (asked other : ExploreOptions) (s t : Scenario) (mine theirs : Found)
+        → AskOfSame asked other → ReadsText text s → ReadsText text t
+        → IsFindingOf asked (bed_of asked s) (Begins asked s) mine
+        → IsFindingOf other (bed_of other t) (Begins other t) theirs → AreConsistent mine theirs }
+{
+    one_scenario();
+    one_exploration();
 }
 
 /// Each fault has its cause: `fault thread` is of a command that needs threads, and of a start that failed, `fault read` of

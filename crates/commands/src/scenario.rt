@@ -12,6 +12,7 @@ use bench_space::Progress;
 use bench_workers::TrackedThreads;
 use command_answers::{Ending, Fault, Rejection, give, reject};
 use requests::ScenarioRequest;
+use run_commands::claimed_run::claimed_run;
 use run_commands::lines::lines;
 use run_commands::node_program::node_program;
 use run_commands::run::run;
@@ -86,6 +87,9 @@ fn on_scenario<T: Threads + Wait + Sync, W: Sink, E: Sink, P: Progress>(
     match asked {
         ScenarioRequest::Run(options) => run(threads, alloc, *options, scenario, out),
         ScenarioRequest::Lines(options) => lines(threads, alloc, *options, scenario, out),
+        ScenarioRequest::ClaimedRun(options) => {
+            claimed_run(threads, alloc, options, scenario, out, err)
+        }
         ScenarioRequest::TracedRun(place) => {
             give(
                 alloc,

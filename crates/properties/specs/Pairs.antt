@@ -5,7 +5,7 @@ use Rattle.node_env.specs.Env.{Setting}
 use Rattle.rule_syntax.specs.declared.syntax.Sizes.{Sizes}
 use Rattle.rule_syntax.specs.declared.syntax.Term.{Term}
 use Rattle.rule_syntax.specs.declared.syntax.Term.TheVariants.{Number, Nodes, Faults, Modulus, Me, Coin, LoopNode, Local, Word, Message', Binary', Logical', Not', Choice', Count', Least', Sorted'}
-use Rattle.rule_nodes.specs.Meaning.{NodeState, truth, value, word_at}
+use Rattle.rule_meaning.specs.Meaning.{NodeState, truth, value, word_at}
 use Rattle.properties.specs.declared.names.Side.{Side}
 use Rattle.properties.specs.declared.names.Side.TheVariants.{First, Second}
 use Rattle.properties.specs.declared.names.PairName.{PairName}

@@ -22,7 +22,6 @@ mod answers;
 mod claims;
 pub mod laws;
 mod names;
-mod operators;
 mod pairs;
 mod property;
 mod terms;

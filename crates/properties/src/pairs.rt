@@ -1,11 +1,11 @@
 //! The number of a term for two nodes in a pulse.
 ghost use Rattle.std.specs.Prelude.{◌≡◌, ◌<◌, ◌^◌, All, slice_index, true};
-ghost use Rattle.rule_nodes.specs.Meaning.{word_at};
+ghost use Rattle.rule_meaning.specs.Meaning.{word_at};
 ghost use Rattle.properties.specs.Pairs.{is_pair_term, node_on_side, number_of_name, pair_number};
 ghost use Rattle.properties.specs.Views.{node_in_view};
 
 use crate::names::{PairName, Side, name_of};
-use crate::operators::{combined, number_of_bit, operate_of, truth_of};
+use rule_meaning::{combined, number_of_bit, operate_of, truth_of};
 use rule_syntax::{Sizes, Term};
 
 /// A node in a pulse: its number, and its memory after the pulse and before it.

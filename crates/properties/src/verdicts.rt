@@ -4,8 +4,8 @@ ghost use Rattle.properties.specs.Pairs.{is_pair_term};
 ghost use Rattle.properties.specs.Verdicts.{first_violated, verdict_of_pulse, violated_with};
 ghost use Rattle.properties.specs.Views.{node_in_view};
 
-use crate::operators::truth_of;
 use crate::pairs::{NodeView, PairView, number_of};
+use rule_meaning::truth_of;
 use rule_syntax::{Sizes, Term};
 
 /// What a property's term says of a pulse: nothing if no node is judged; otherwise that it holds for any two of them,

@@ -36,6 +36,8 @@ pub enum ScenarioRequest {
     Run(RunOptions),
     /// `run --json`.
     Lines(LinesOptions),
+    /// `run --claims`.
+    ClaimedRun(ClaimedRunOptions),
     /// `run --trace`.
     TracedRun(NodeInPulse),
     /// `dis --node`.
@@ -102,6 +104,14 @@ pub struct RunOptions {
 pub struct LinesOptions {
     pub run: RunOptions,
     pub form: LinesForm,
+}
+
+/// The options of `run --claims`.
+#[derive(Debug, Drop)]
+pub struct ClaimedRunOptions {
+    pub run: RunOptions,
+    /// The text of the properties by which the run is judged.
+    pub claims: String,
 }
 
 /// A node in a pulse. A scenario may have no such pulse or node.

@@ -40,7 +40,7 @@ use Rattle.rule_syntax.specs.declared.syntax.Term.TheVariants.{Number, Me, Coin,
 use Rattle.rule_syntax.specs.declared.syntax.Statement.{Statement}
 use Rattle.rule_syntax.specs.declared.syntax.Statement.TheVariants.{Nothing, Then', Let', Assign, If', For', SendAll, SendTo}
 use Rattle.rule_syntax.specs.declared.syntax.Operator.TheVariants.{Compute}
-use Rattle.rule_nodes.specs.Meaning.{NodeState, apply, value, word_at, message_from, truth, with_local, assigned, all_assigned, with_sent, sent_below, each_below, after}
+use Rattle.rule_meaning.specs.Meaning.{NodeState, apply, value, word_at, message_from, truth, with_local, assigned, all_assigned, with_sent, sent_below, each_below, after}
 use Rattle.rule_nodes.specs.Operands.{is_constant, constant_number, is_local, is_operand, is_asked, is_steady, depth_behind, term_source}
 use Rattle.rule_nodes.specs.Fits.{HasPlace, Fits, TargetFits, AssignmentFits, BlockFits}
 use Rattle.rule_nodes.specs.Code.{number_place, fetch_code, keep_code, copy, cond_of, tallied_code, term_code, over_code, stored_code, passed_code, idle_code, send_to_constant_code, assign_code, place_code, word_code, set_code, given_code, alu_op_of, change_place, changing_insn, one_code, also_code, assignment_code, get_code, send_code, send_codes, send_all_code, receiver_code, send_to_code, each_code, is_nothing, block_code}

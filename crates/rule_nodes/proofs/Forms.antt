@@ -25,7 +25,7 @@ use Rattle.bpf_machine.specs.Run.{Leads}
 use Rattle.clock_nodes.proofs.Forms.{put, at, called, storing}
 use Rattle.rule_syntax.specs.declared.syntax.Operation.{Operation}
 use Rattle.rule_syntax.specs.declared.syntax.Operation.TheVariants.{Sum, Difference, Product, Quotient, Remainder}
-use Rattle.rule_nodes.specs.Meaning.{apply}
+use Rattle.rule_meaning.specs.Meaning.{apply}
 use Rattle.rule_nodes.specs.Code.{set_number, copy, alu_op_of}
 use Rattle.rule_nodes.proofs.Small.{low, moved, said, results}
 

@@ -33,7 +33,7 @@ use Rattle.rule_syntax.specs.declared.syntax.Assignment.{Assignment}
 use Rattle.rule_syntax.specs.declared.syntax.Assignment.TheVariants.{One, Also'}
 use Rattle.rule_syntax.specs.declared.syntax.Statement.{Statement}
 use Rattle.rule_syntax.specs.declared.syntax.Statement.TheVariants.{Let', For', SendAll, SendTo}
-use Rattle.rule_nodes.specs.Meaning.{apply_operator}
+use Rattle.rule_meaning.specs.Meaning.{apply_operator}
 use Rattle.rule_nodes.specs.Operands.{is_constant, is_local, is_operand, is_steady, is_shared, shares_side, constant_number, depth_behind, fetched_source, term_source, IsSourceWithin}
 use Rattle.rule_nodes.specs.Fits.{Fits, AssignmentFits, BlockFits}
 use Rattle.rule_nodes.specs.Code.{number_place, fetch_code, keep_code, set_number, set_node, copy, mirror, jump_on, jump_by, jump_at, jump_register, alu_op_of, far_of, when_of, beyond_purpose, behind_test, by_value, truth_code, get_code, load_code, operand_code, by_operator, left_code, right_code, beside_code, binary_code, choice_code, decides, both_far, message_code, message_by, tally_step, tally_codes, tests_code, tallied_code, tally_code, tally_test, shared_code, items_code, pass_codes, nearer_end, passes_before, sorted_code, term_code, over_code, stored_code, let_code, assign_code, place_code, word_code, set_code, given_code, change_place, changing_insn, one_code, also_code, send_codes, send_code, send_all_code, passed_code, idle_code, send_to_constant_code, receiver_code, send_to_code, each_code, assignment_code, block_code}

@@ -17,7 +17,7 @@ use Rattle.rule_nodes.specs.declared.numbers.Purpose.{Purpose}
 use Rattle.rule_nodes.specs.declared.numbers.Purpose.TheVariants.{Value}
 use Rattle.rule_nodes.specs.declared.numbers.Tally.{Tally}
 use Rattle.rule_nodes.specs.declared.numbers.Tally.TheVariants.{HowMany, LeastMessage}
-use Rattle.rule_nodes.specs.Meaning.{NodeState, value, bit_of, truth, apply_operator, combine, message_from, count_below, least_below, numbers_of_nodes, in_order, number_at_place}
+use Rattle.rule_meaning.specs.Meaning.{NodeState, value, bit_of, truth, apply_operator, combine, message_from, count_below, least_below, numbers_of_nodes, in_order, number_at_place}
 use Rattle.rule_nodes.specs.Operands.{is_operand, is_free, is_shared, shares_side, depth_behind, term_source}
 use Rattle.rule_nodes.specs.Fits.{SidesFit, Fits, TallyFits}
 use Rattle.rule_nodes.specs.Code.{number_place, fetch_code, by_value, binary_code, tally_test, tests_code, shared_code, tallied_code, tally_code, term_code, over_code, let_code}

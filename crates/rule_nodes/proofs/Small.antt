@@ -13,7 +13,7 @@ use Rattle.rule_syntax.specs.declared.syntax.Comparison.{Comparison}
 use Rattle.rule_syntax.specs.declared.syntax.Comparison.TheVariants.{Equal, NotEqual, Less, AtMost, Greater, AtLeast}
 use Rattle.rule_syntax.specs.declared.syntax.Operator.{Operator}
 use Rattle.rule_syntax.specs.declared.syntax.Operator.TheVariants.{Compute, Compare}
-use Rattle.rule_nodes.specs.Meaning.{apply, compare, bit_of, truth, apply_operator}
+use Rattle.rule_meaning.specs.Meaning.{apply, compare, bit_of, truth, apply_operator}
 use Rattle.rule_nodes.specs.Code.{alu_op_of, cond_of, opposite, mirror, jump_on}
 
 pub low : (v : ℕ) → v < 2 ^ 32 → v % 2 ^ 32 ≡ v

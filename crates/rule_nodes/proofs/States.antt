@@ -14,7 +14,7 @@ use Rattle.bpf_machine.specs.Step.{after_call}
 use Rattle.clock_nodes.proofs.Places.{Stands, stands_behind}
 use Rattle.clock_nodes.proofs.Forms.{put_other, call_keeps, put, at, called}
 use Rattle.rule_syntax.specs.declared.syntax.Sizes.{Sizes}
-use Rattle.rule_nodes.specs.Meaning.{NodeState}
+use Rattle.rule_meaning.specs.Meaning.{NodeState}
 use Rattle.rule_nodes.specs.declared.numbers.TheConstants.{PLACES}
 use Rattle.rule_nodes.specs.Code.{number_place}
 use Rattle.rule_nodes.proofs.Places.{inside, IsIn, At, Framed, IsFramed, in_alike, framed_alike, Placed}

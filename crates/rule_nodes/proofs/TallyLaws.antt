@@ -3,7 +3,7 @@ use Rattle.std.proofs.Common.{◌≡◌, ℕ, zero, suc, ◌+◌, ◌^◌, ◌<�
 use Rattle.rule_nodes.specs.declared.numbers.Place.{Place}
 use Rattle.rule_nodes.specs.declared.numbers.Tally.{Tally}
 use Rattle.rule_nodes.specs.declared.numbers.Tally.TheVariants.{HowMany, LeastMessage}
-use Rattle.rule_nodes.specs.Meaning.{bit_of, truth, count_below, least_below}
+use Rattle.rule_meaning.specs.Meaning.{bit_of, truth, count_below, least_below}
 use Rattle.rule_nodes.specs.Code.{tally_start, tally_step}
 
 -- the steps of all nodes have the same length

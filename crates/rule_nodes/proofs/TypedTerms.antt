@@ -51,7 +51,7 @@ use Rattle.rule_nodes.specs.declared.numbers.Source.{Source}
 use Rattle.rule_nodes.specs.declared.numbers.Source.TheVariants.{Constant, FromLocal, FromWord, Computed}
 use Rattle.rule_syntax.specs.declared.syntax.Term.{Term}
 use Rattle.rule_syntax.specs.declared.syntax.Term.TheVariants.{Number as Numeral, Nodes, Faults, Modulus, Me, Coin, LoopNode, Local, Word, Message', Binary', Logical', Not', Choice', Count', Least', Sorted'}
-use Rattle.rule_nodes.specs.Meaning.{apply_operator}
+use Rattle.rule_meaning.specs.Meaning.{apply_operator}
 use Rattle.rule_nodes.specs.Operands.{is_constant, is_operand, is_shared, constant_number, depth_behind, fetched_source, term_source}
 use Rattle.rule_nodes.specs.Fits.{HasPlace, SidesFit, Fits, TallyFits}
 use Rattle.rule_nodes.specs.Code.{number_place, fetch_code, keep_code, start_code, increment_code, place_operand, load_place, set_number, copy, alu_op_of, cond_of, jump_on, jump_by, jump_at, beyond_purpose, truth_code, by_value, by_test, get_code, operand_code, load_code, jump_register, by_operator, left_code, right_code, beside_code, binary_code, message_by, mirror, set_node, choice_code, if_code, decides, both_far, both_code, message_code, lower_code, tally_start, tally_step, tests_code, tallied_code, tally_code, tally_test, shared_code, sides_code, items_code, exchange_code, exchange_codes, pass_code, pass_codes, nearer_end, passes_before, sorted_code, term_code, over_code}

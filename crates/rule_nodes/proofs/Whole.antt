@@ -45,7 +45,7 @@ use Rattle.rule_syntax.specs.declared.syntax.Term.{Term}
 use Rattle.rule_syntax.specs.declared.syntax.Term.TheVariants.{Number, Nodes, Faults, Modulus, Me, Coin, LoopNode, Local, Word, Message', Binary', Logical', Not', Choice', Count', Least', Sorted'}
 use Rattle.rule_syntax.specs.declared.syntax.Statement.{Statement}
 use Rattle.rule_syntax.specs.declared.syntax.Statement.TheVariants.{Nothing, Then', Let', Assign, If', For', SendAll, SendTo}
-use Rattle.rule_nodes.specs.Meaning.{initial_state}
+use Rattle.rule_meaning.specs.Meaning.{initial_state}
 use Rattle.rule_nodes.specs.Operands.{is_constant, constant_number, is_local, is_operand, is_steady, is_shared, depth_behind, term_source}
 use Rattle.rule_nodes.specs.Fits.{BlockFits}
 use Rattle.rule_nodes.specs.Code.{number_place, fetch_code, keep_code, start_code, increment_code, load_place, set_number, set_node, get_code, operand_code, load_code, left_code, right_code, beside_code, binary_code, mirror, message_by, copy, truth_code, by_value, by_test, by_operator, choice_code, if_code, is_nothing, decides, both_far, both_code, jump_on, jump_by, jump_register, message_code, tally_start, tally_step, tally_codes, tests_code, tallied_code, tally_test, shared_code, sides_code, items_code, exchange_code, exchange_codes, pass_code, pass_codes, nearer_end, passes_before, sorted_code, term_code, over_code, assign_code, place_code, word_code, set_code, change_place, given_code, alu_op_of, changing_insn, one_code, also_code, assignment_code, stored_code, let_code, send_code, send_codes, send_all_code, passed_code, idle_code, receiver_code, send_to_code, each_code, block_code, tail_code, rule_code}

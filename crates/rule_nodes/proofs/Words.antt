@@ -4,7 +4,7 @@ use Rattle.std.proofs.Math.ListN.{length-set}
 use Rattle.std.proofs.lemmas.Option.{slice_get-get_or}
 use Rattle.std.proofs.lemmas.List.Elements.{All-get_or, All-set}
 use Rattle.bpf_machine.specs.Step.{number_at, with_number}
-use Rattle.rule_nodes.specs.Meaning.{word_at, with_memory_word}
+use Rattle.rule_meaning.specs.Meaning.{word_at, with_memory_word}
 
 found : (m : List ℕ) (i j : ℕ) → i ≡ j → j < length m → slice_get m i ≡ Some (slice_index m j)
 found m i j e lt = ap (slice_get m) e ∙ slice_get-get_or m j 0 lt

@@ -15,7 +15,7 @@ use Rattle.bpf_insn.specs.declared.forms.Operand.{Operand}
 use Rattle.bpf_insn.specs.declared.forms.Operand.TheVariants.{Imm, Reg}
 use Rattle.bpf_insn.specs.declared.forms.Insn.{Insn}
 use Rattle.bpf_insn.specs.declared.forms.Insn.TheVariants.{Alu, Branch, Ja, Call, Exit, Load, StoreReg, StoreImm}
-use Rattle.rule_nodes.specs.Meaning.{apply_operator}
+use Rattle.rule_meaning.specs.Meaning.{apply_operator}
 use Rattle.rule_nodes.specs.Operands.{is_constant, is_operand, is_local, is_steady, is_shared, constant_number, depth_behind, term_source}
 use Rattle.rule_syntax.specs.declared.syntax.Sizes.{Sizes}
 use Rattle.rule_syntax.specs.declared.syntax.Operation.{Operation}

@@ -1,4 +1,3 @@
-pub mod Meaning
 pub mod Operands
 pub mod Fits
 pub mod Code

@@ -9,7 +9,7 @@ use Rattle.rule_syntax.specs.declared.syntax.Target.{Target}
 use Rattle.rule_syntax.specs.declared.syntax.Target.TheVariants.{ToLocal, ToWord}
 use Rattle.rule_syntax.specs.declared.syntax.Term.{Term}
 use Rattle.rule_syntax.specs.declared.syntax.Term.TheVariants.{Number, Nodes, Faults, Modulus, Me, Coin, LoopNode, Local, Word, Message', Binary', Logical', Not', Choice', Count', Least', Sorted'}
-use Rattle.rule_nodes.specs.Meaning.{apply_operator}
+use Rattle.rule_meaning.specs.Meaning.{apply_operator}
 
 -- a constant is a number, a size, the node of a loop, or computed of constants
 abbrev pub is_constant : Term → Bool

@@ -9,9 +9,10 @@ use crate::insns::{
     set_number_of,
 };
 use crate::numbers::{Place, Purpose, Source};
-use crate::operands::{get_of, operand_of, operate_of, source, with_load};
+use crate::operands::{get_of, operand_of, source, with_load};
 use crate::parts::{behind_test_of, by_value_of, far_for, joined, kept_then, single, when_for};
 use bpf_insn::{Insn, MAX_SLOTS, Operand, Reg, Width};
+use rule_meaning::operate_of;
 use rule_syntax::{Comparison, Operator, Sizes, Term};
 use std::alloc::{AllocError, Global};
 

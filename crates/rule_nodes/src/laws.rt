@@ -6,7 +6,7 @@ ghost use Rattle.bpf_verify.specs.Typable.{Typable};
 ghost use Rattle.clock_nodes.specs.Ends.{HasRuns, EndsBy};
 ghost use Rattle.rule_syntax.specs.declared.syntax.Sizes.{Sizes};
 ghost use Rattle.rule_syntax.specs.declared.syntax.Statement.{Statement};
-ghost use Rattle.rule_nodes.specs.Meaning.{in_order};
+ghost use Rattle.rule_meaning.specs.Meaning.{in_order};
 ghost use Rattle.rule_nodes.specs.Fits.{BlockFits};
 ghost use Rattle.rule_nodes.specs.Code.{rule_code};
 ghost use Rattle.rule_nodes.specs.Ends.{AreSizes, IsRuleEnd};

@@ -1,6 +1,5 @@
 //! Where numbers are found: constants, locals and words of the memory.
 ghost use Rattle.std.specs.Prelude.{◌≡◌, ◌≤◌, ◌++◌, ◌||◌, slice_index, IfOk};
-ghost use Rattle.rule_nodes.specs.Meaning.{apply, compare, apply_operator};
 ghost use Rattle.rule_nodes.specs.Operands.{is_constant, is_operand, is_free, is_shared, shares_side, constant_number, depth_behind, fetched_source, term_source, IsSourceWithin};
 ghost use Rattle.rule_nodes.specs.Fits.{HasPlace};
 ghost use Rattle.rule_nodes.specs.Code.{load_place, get_code, operand_code, load_code};
@@ -9,43 +8,9 @@ use crate::insns::{copy_of, fetch_of, place_of, place_operand_of, set_number_of,
 use crate::numbers::{PLACES, Place, Source};
 use crate::parts::joined;
 use bpf_insn::{Insn, Operand, Reg, Size};
-use rule_syntax::{Comparison, Operation, Operator, Sizes, Term};
+use rule_meaning::operate_of;
+use rule_syntax::{Operator, Sizes, Term};
 use std::alloc::AllocError;
-
-fn apply_of(op: Operation, a: u32, b: u32) -> u32
-    ensures { result ≡ apply op a b }
-{
-    match op {
-        Operation::Sum => a.wrapping_add(b),
-        Operation::Difference => a.wrapping_sub(b),
-        Operation::Product => a.wrapping_mul(b),
-        Operation::Quotient => { if b == 0 { 0 } else { a / b } }
-        Operation::Remainder => { if b == 0 { a } else { a % b } }
-    }
-}
-
-fn compare_of(comparison: Comparison, a: u32, b: u32) -> bool
-    ensures { result ≡ compare comparison a b }
-{
-    match comparison {
-        Comparison::Equal => a == b,
-        Comparison::NotEqual => a != b,
-        Comparison::Less => a < b,
-        Comparison::AtMost => a <= b,
-        Comparison::Greater => a > b,
-        Comparison::AtLeast => a >= b,
-    }
-}
-
-/// Returns what an operator makes of two numbers.
-pub fn operate_of(operator: Operator, a: u32, b: u32) -> u32
-    ensures { result ≡ apply_operator operator a b }
-{
-    match operator {
-        Operator::Compute(op) => apply_of(op, a, b),
-        Operator::Compare(comparison) => { if compare_of(comparison, a, b) { 1 } else { 0 } }
-    }
-}
 
 /// Returns whether a source is a constant.
 pub fn is_constant_of(t: &Term) -> bool

@@ -17,7 +17,7 @@ use Rattle.rule_syntax.specs.declared.syntax.Term.{Term}
 use Rattle.rule_syntax.specs.declared.syntax.Term.TheVariants.{Number, Nodes, Faults, Modulus, Me, Coin, LoopNode, Local, Word, Message', Binary', Logical', Not', Choice', Count', Least', Sorted'}
 use Rattle.rule_syntax.specs.declared.syntax.Statement.{Statement}
 use Rattle.rule_syntax.specs.declared.syntax.Statement.TheVariants.{Nothing, Then', Let', Assign, If', For', SendAll, SendTo}
-use Rattle.rule_nodes.specs.Meaning.{NodeState, truth, word_at, message_from, with_memory_word, value, with_local, assigned, all_assigned, sent_below, after, initial_state, pulse}
+use Rattle.rule_meaning.specs.Meaning.{NodeState, truth, word_at, message_from, with_memory_word, value, with_local, assigned, all_assigned, sent_below, after, initial_state, pulse}
 use Rattle.rule_nodes.proofs.Words.{word_length, word_bytes}
 use Rattle.rule_paths.specs.Relations.{Expression, Numbers, Relation, AllOf, AnyOf, AgreeBelow, IsSettled, Settles, CanHold}
 use Rattle.rule_paths.specs.Covered.{TermIsCovered, TargetIsCovered, AssignmentIsCovered, RuleIsCovered, always_sends}

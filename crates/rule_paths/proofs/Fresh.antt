@@ -3,7 +3,7 @@ use Rattle.std.proofs.Common.{◌≡◌, ℕ, ◌+◌, ◌^◌, ◌<◌, ◌≤�
 use Rattle.std.proofs.lemmas.Bool.{eq-eqb, ne_eqb}
 use Rattle.node_env.specs.Env.{Setting}
 use Rattle.rule_syntax.specs.declared.syntax.Sizes.{Sizes}
-use Rattle.rule_nodes.specs.Meaning.{NodeState, bit_of, word_at, message_from}
+use Rattle.rule_meaning.specs.Meaning.{NodeState, bit_of, word_at, message_from}
 use Rattle.rule_paths.specs.Relations.{Expression, Variable, Numbers, expression_number, Relation, AgreeBelow, IsSettled, Settles, RelationHolds}
 use Rattle.rule_paths.specs.Stores.{Store, Count, AreSizeNumbers, StoreSays, AllCounted}
 use Rattle.rule_paths.specs.Paths.{is_bit, What, Value, Truth, Sender, Found, Numbered, numbered_as, with_fresh}

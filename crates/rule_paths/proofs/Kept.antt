@@ -12,7 +12,7 @@ use Rattle.rule_syntax.specs.declared.syntax.Assignment.TheVariants.{One, Also'}
 use Rattle.rule_syntax.specs.declared.syntax.Term.{Term}
 use Rattle.rule_syntax.specs.declared.syntax.Statement.{Statement}
 use Rattle.rule_syntax.specs.declared.syntax.Statement.TheVariants.{Nothing, Then', Let', Assign, If', For', SendAll, SendTo}
-use Rattle.rule_nodes.specs.Meaning.{NodeState, truth, word_at, value, with_local, assigned, all_assigned, sent_below, after, initial_state, pulse}
+use Rattle.rule_meaning.specs.Meaning.{NodeState, truth, word_at, value, with_local, assigned, all_assigned, sent_below, after, initial_state, pulse}
 use Rattle.rule_nodes.proofs.Words.{word_length, word_bytes}
 use Rattle.rule_paths.specs.Relations.{Constant, Numbers}
 use Rattle.rule_paths.specs.Covered.{TermIsCovered, AssignmentIsCovered, RuleIsCovered, always_sends}

@@ -17,7 +17,7 @@ use Rattle.rule_syntax.specs.declared.syntax.Connective.{Connective}
 use Rattle.rule_syntax.specs.declared.syntax.Connective.TheVariants.{And, Or}
 use Rattle.rule_syntax.specs.declared.syntax.Term.{Term}
 use Rattle.rule_syntax.specs.declared.syntax.Term.TheVariants.{Number, Nodes, Faults, Modulus, Me, Coin, LoopNode, Local, Word, Message', Binary', Logical', Not', Choice', Count', Least', Sorted'}
-use Rattle.rule_nodes.specs.Meaning.{NodeState, apply, compare, bit_of, truth, apply_operator, combine, count_below, word_at, message_from, value}
+use Rattle.rule_meaning.specs.Meaning.{NodeState, apply, compare, bit_of, truth, apply_operator, combine, count_below, word_at, message_from, value}
 use Rattle.rule_nodes.specs.Code.{opposite}
 use Rattle.rule_nodes.proofs.Small.{apply_small, number_small, opposed, truth_of}
 use Rattle.rule_nodes.proofs.Words.{word_small}

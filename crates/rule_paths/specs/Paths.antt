@@ -19,7 +19,7 @@ use Rattle.rule_syntax.specs.declared.syntax.Statement.TheVariants.{Nothing, The
 use Rattle.rule_nodes.specs.Code.{opposite}
 use Rattle.node_env.specs.Env.{Setting}
 use Rattle.rule_syntax.specs.declared.syntax.Sizes.{Sizes}
-use Rattle.rule_nodes.specs.Meaning.{NodeState}
+use Rattle.rule_meaning.specs.Meaning.{NodeState}
 use Rattle.rule_paths.specs.Relations.{Expression, Constant, Variable, Plus, Numbers, Relation, Always, IsAtMost, AllOf, AnyOf, AgreeBelow, Settles, IsEqual, IsLess}
 use Rattle.rule_paths.specs.Stores.{NodeCount, FaultBound, ClockModulus, Store, Count, initial_store, StoreSays, AllCounted, IsSent}
 

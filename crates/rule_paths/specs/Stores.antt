@@ -5,7 +5,7 @@ use Rattle.node_env.specs.Env.{Setting, AreNumbers}
 use Rattle.clock_nodes.specs.Ends.{IsSentTo}
 use Rattle.rule_syntax.specs.declared.syntax.Sizes.{Sizes}
 use Rattle.rule_syntax.specs.declared.syntax.Term.{Term}
-use Rattle.rule_nodes.specs.Meaning.{NodeState, word_at, value, count_below}
+use Rattle.rule_meaning.specs.Meaning.{NodeState, word_at, value, count_below}
 use Rattle.rule_paths.specs.Relations.{Expression, Constant, Variable, Numbers, IsSettled}
 use Rattle.rule_paths.specs.Covered.{TermIsCovered}
 

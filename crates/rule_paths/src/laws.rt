@@ -3,7 +3,7 @@ ghost use Rattle.std.specs.Prelude.{◌≡◌, ℕ, ◌*◌, ◌<◌, ◌≤◌,
 ghost use Rattle.node_env.specs.Env.{Setting};
 ghost use Rattle.rule_syntax.specs.declared.syntax.Sizes.{Sizes};
 ghost use Rattle.rule_syntax.specs.declared.syntax.Statement.{Statement};
-ghost use Rattle.rule_nodes.specs.Meaning.{pulse, value, truth, message_from};
+ghost use Rattle.rule_meaning.specs.Meaning.{pulse, value, truth, message_from};
 ghost use Rattle.rule_paths.specs.Relations.{Numbers, Relation, AgreeBelow, IsSettled, CanHold};
 ghost use Rattle.rule_paths.specs.Covered.{RuleIsCovered, always_sends};
 ghost use Rattle.rule_paths.specs.Stores.{Count, CanSee, IsNode, IsCounted, LeavesNode};

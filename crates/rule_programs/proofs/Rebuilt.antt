@@ -2,7 +2,7 @@
 use Rattle.std.proofs.Common.{◌≡◌, ℕ, ◌+◌, ◌<◌, ◌≤◌, ◌&&◌, ◌||◌, not, true, false, if◌then◌else◌, List, [], ◌∷◌, ◌++◌, length, None, refl, ap, sym, subst, ◌∙◌, Box, Global}
 use denote.RawPtr.{null_ptr}
 use Rattle.bpf_insn.specs.declared.forms.Insn.{Insn}
-use Rattle.rule_nodes.specs.Meaning.{apply_operator}
+use Rattle.rule_meaning.specs.Meaning.{apply_operator}
 use Rattle.rule_nodes.specs.Operands.{is_constant, is_fetched, is_local, is_operand, is_asked, is_steady, is_free, is_shared, depth_behind, constant_number, fetched_source, term_source}
 use Rattle.rule_nodes.specs.Code.{number_place, by_value, by_test, binary_code, choice_code, decides, both_code, message_by, tests_code, tallied_code, tally_code, tally_test, shared_code, sides_code, sorted_code, term_code, over_code, given_code, change_place, change_by, changing_insn, one_code, also_code, assignment_code, stored_code, send_all_code, send_to_constant_code, send_to_code, each_code, if_code, is_nothing, let_code, block_code, head_code, tail_code, rule_code}
 use Rattle.rule_nodes.specs.Fits.{HasPlace, SidesFit, Fits, TargetFits, AssignmentFits, BlockFits}

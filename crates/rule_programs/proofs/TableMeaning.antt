@@ -10,7 +10,7 @@ use Rattle.rule_syntax.specs.declared.syntax.Operator.TheVariants.{Compare}
 use Rattle.rule_syntax.specs.declared.syntax.Sizes.{Sizes}
 use Rattle.rule_syntax.specs.declared.syntax.Term.{Term}
 use Rattle.rule_syntax.specs.declared.syntax.Term.TheVariants.{Me, Message', Binary', Logical', Not', Choice', Count', Least', Sorted'}
-use Rattle.rule_nodes.specs.Meaning.{NodeState, apply_operator, bit_of, truth, combine, count_below, least_below, numbers_of_nodes, in_order, number_at_place, word_at, message_from, value}
+use Rattle.rule_meaning.specs.Meaning.{NodeState, apply_operator, bit_of, truth, combine, count_below, least_below, numbers_of_nodes, in_order, number_at_place, word_at, message_from, value}
 use Rattle.rule_text.specs.declared.lookups.Run.{Run}
 use Rattle.rule_text.specs.Forms.{TermForm, number, nodes, faults, modulus, me, coin, loop_node, local, word, message, binary, logical, inverse, choice, count, least, sorted, term_form}
 use Rattle.rule_text.specs.Tables.{cell_at, run, run_at, runs_from, runs_of, middle, first_run, looked_up, table_term}

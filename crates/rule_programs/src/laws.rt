@@ -1,7 +1,7 @@
 //! Laws of the texts of rules, for those who read only a text.
 ghost use Rattle.std.specs.Prelude.{◌≡◌, ℕ, List};
 ghost use Rattle.node_env.specs.Env.{Setting};
-ghost use Rattle.rule_nodes.specs.Meaning.{NodeState, value};
+ghost use Rattle.rule_meaning.specs.Meaning.{NodeState, value};
 ghost use Rattle.rule_syntax.specs.declared.syntax.Sizes.{Sizes};
 ghost use Rattle.rule_syntax.specs.declared.syntax.Term.{Term};
 ghost use Rattle.rule_text.specs.Forms.{term_form};

@@ -5,7 +5,7 @@ use Rattle.std.proofs.lemmas.Bool.{lt-ltb}
 use Rattle.node_env.specs.declared.env.TheConstants.{NO_MAIL}
 use Rattle.node_env.specs.Env.{Setting, received}
 use Rattle.rule_syntax.specs.declared.syntax.Sizes.{Sizes}
-use Rattle.rule_nodes.specs.Meaning.{bit_of, truth, count_below, message_from}
+use Rattle.rule_meaning.specs.Meaning.{bit_of, truth, count_below, message_from}
 use Rattle.quorums.specs.Counts.{count, SomeNode, SomeCorrect, HasFewFaults}
 use Rattle.quorums.proofs.Marks.{count_le, reaches_correct, one_passes_both, one_correct_passes_both}
 use Rattle.rule_steps.specs.Steps.{Between, Sees}

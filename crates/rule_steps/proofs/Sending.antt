@@ -10,7 +10,7 @@ use Rattle.rule_syntax.specs.declared.syntax.Sizes.{Sizes}
 use Rattle.rule_syntax.specs.declared.syntax.Statement.{Statement}
 use Rattle.rule_syntax.specs.declared.syntax.Statement.TheVariants.{SendAll}
 use Rattle.rule_syntax.specs.declared.syntax.Term.TheVariants.{Word}
-use Rattle.rule_nodes.specs.Meaning.{NodeState, word_at, sent_below, initial_state}
+use Rattle.rule_meaning.specs.Meaning.{NodeState, word_at, sent_below, initial_state}
 use Rattle.rule_nodes.proofs.Words.{word_small}
 use Rattle.rule_steps.specs.Steps.{Between, IsBetween, NodeBecomes, StepLeads, Holds}
 

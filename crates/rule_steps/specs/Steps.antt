@@ -6,7 +6,7 @@ use Rattle.node_env.specs.Env.{Setting, AreNumbers}
 use Rattle.clock_nodes.specs.Ends.{IsSentTo}
 use Rattle.rule_syntax.specs.declared.syntax.Sizes.{Sizes}
 use Rattle.rule_syntax.specs.declared.syntax.Statement.{Statement}
-use Rattle.rule_nodes.specs.Meaning.{pulse}
+use Rattle.rule_meaning.specs.Meaning.{pulse}
 use Rattle.quorums.specs.Counts.{HasFewFaults}
 
 -- a node between two pulses: its memory, and the number that it sent to all

@@ -6,7 +6,7 @@ ghost use Rattle.rule_syntax.specs.declared.syntax.Sizes.{Sizes};
 ghost use Rattle.rule_syntax.specs.declared.syntax.Statement.{Statement};
 ghost use Rattle.rule_syntax.specs.declared.syntax.Statement.TheVariants.{SendAll};
 ghost use Rattle.rule_syntax.specs.declared.syntax.Term.TheVariants.{Word};
-ghost use Rattle.rule_nodes.specs.Meaning.{truth, count_below, word_at, message_from};
+ghost use Rattle.rule_meaning.specs.Meaning.{truth, count_below, word_at, message_from};
 ghost use Rattle.quorums.specs.Counts.{count, SomeNode, SomeCorrect, HasFewFaults};
 ghost use Rattle.rule_steps.specs.Steps.{Between, Sees, EachCorrect, EachTwo, StepLeads, Claim, Holds, IsRuleRun};
 

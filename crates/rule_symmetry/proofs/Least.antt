@@ -2,7 +2,7 @@
 use Rattle.std.proofs.Common.{◌≡◌, ◌⊎◌, ℕ, zero, suc, ◌+◌, ◌<◌, ◌≤◌, ◌==◌, nat_le, min, Bool, true, false, if◌then◌else◌, ◌&&◌, inl, inr, refl, sym, ap, ap₂, ◌∙◌, subst, arith}
 use Rattle.std.proofs.lemmas.Bool.Decides.{leb_tells}
 use Rattle.node_env.specs.declared.env.TheConstants.{NO_MAIL}
-use Rattle.rule_nodes.specs.Meaning.{bit_of, truth, count_below, least_below}
+use Rattle.rule_meaning.specs.Meaning.{bit_of, truth, count_below, least_below}
 use Rattle.rule_symmetry.proofs.Counts.{same_counts, times, truth_of}
 
 -- a message that counts, and is at most x

@@ -12,7 +12,7 @@ use Rattle.rule_syntax.specs.declared.syntax.Target.{Target}
 use Rattle.rule_syntax.specs.declared.syntax.Target.TheVariants.{ToLocal, ToWord}
 use Rattle.rule_syntax.specs.declared.syntax.Statement.{Statement}
 use Rattle.rule_syntax.specs.declared.syntax.Statement.TheVariants.{Nothing, Then', Let', Assign, If', For', SendAll, SendTo}
-use Rattle.rule_nodes.specs.Meaning.{NodeState, bit_of, truth, message_from, value, with_local, assigned, all_assigned, sent_below, after, initial_state, pulse}
+use Rattle.rule_meaning.specs.Meaning.{NodeState, bit_of, truth, message_from, value, with_local, assigned, all_assigned, sent_below, after, initial_state, pulse}
 use Rattle.rule_symmetry.specs.Symmetry.{is_symmetric_term, are_symmetric, is_symmetric}
 use Rattle.rule_symmetry.specs.Inboxes.{SeeAlike, IsRenaming, IsToAll}
 use Rattle.rule_symmetry.proofs.Counts.{count_same, count_renamed}

@@ -7,7 +7,7 @@ use Rattle.node_env.specs.Env.{Setting}
 use Rattle.rule_syntax.specs.declared.syntax.Sizes.{Sizes}
 use Rattle.rule_syntax.specs.declared.syntax.Term.{Term}
 use Rattle.rule_syntax.specs.declared.syntax.Term.TheVariants.{Number, Nodes, Faults, Modulus, Me, Coin, LoopNode, Local, Word, Message', Binary', Logical', Not', Choice', Count', Least', Sorted'}
-use Rattle.rule_nodes.specs.Meaning.{NodeState, apply_operator, combine, bit_of, truth, count_below, least_below, in_order, number_at_place, numbers_of_nodes, word_at, message_from, value}
+use Rattle.rule_meaning.specs.Meaning.{NodeState, apply_operator, combine, bit_of, truth, count_below, least_below, in_order, number_at_place, numbers_of_nodes, word_at, message_from, value}
 use Rattle.rule_symmetry.specs.Symmetry.{is_counted, is_symmetric_term}
 use Rattle.rule_symmetry.specs.Inboxes.{SeeAlike}
 use Rattle.rule_symmetry.proofs.Counts.{count_same, same_counts}

@@ -3,7 +3,7 @@ ghost use Rattle.std.specs.Prelude.{◌≡◌, ◌<◌, ℕ, List, true};
 ghost use Rattle.node_env.specs.Env.{Setting};
 ghost use Rattle.rule_syntax.specs.declared.syntax.Sizes.{Sizes};
 ghost use Rattle.rule_syntax.specs.declared.syntax.Statement.{Statement};
-ghost use Rattle.rule_nodes.specs.Meaning.{message_from, pulse};
+ghost use Rattle.rule_meaning.specs.Meaning.{message_from, pulse};
 ghost use Rattle.rule_symmetry.specs.Symmetry.{is_symmetric};
 ghost use Rattle.rule_symmetry.specs.Inboxes.{IsRenaming, IsSorting, IsToAll, SeeAlike};
 

@@ -1,3 +1,4 @@
+pub mod ClaimedRun
 pub mod Run
 pub mod Lines
 pub mod Stress

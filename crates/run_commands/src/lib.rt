@@ -28,6 +28,7 @@
 //! ```
 #![tactic(auto)]
 
+pub mod claimed_run;
 pub mod lines;
 mod node_lines;
 pub mod node_program;

@@ -2,6 +2,7 @@ pub mod PlaceLemmas
 pub mod ExploreLemmas
 pub mod TheoremLemmas
 mod OneExploration
+pub mod SameBeds
 pub mod RuleSteps
 pub mod RulePaths
 pub mod RulePlays

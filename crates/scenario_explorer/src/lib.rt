@@ -41,5 +41,5 @@ mod wider;
 
 pub use exploring::finding_on;
 pub use fit::{uncovered_of, unfit_of};
-pub use laws::{rules_explored, rules_move};
+pub use laws::{one_exploration, rules_explored, rules_move};
 pub use wider::{is_finished_by_all_pulses, states_enough};

@@ -1,8 +1,11 @@
 -- A text reads as one scenario at most.
-use Rattle.std.proofs.Common.{◌≡◌, ℕ, List, [], ◌∷◌, refl, ap, ap₂, sym, subst, ◌∙◌, Global}
-use Rattle.std.specs.Prelude.{Option, Some, None, codes, pos, negsuc, option_map}
+use Rattle.std.proofs.Common.{◌≡◌, ℕ, List, [], ◌∷◌, map, refl, ap, ap₂, sym, subst, ◌∙◌, Global}
+use Rattle.std.specs.Prelude.{Option, Some, None, IfSome, codes, pos, negsuc, option_map}
 use Rattle.toml.specs.Data.{Data, Items, no_items, item, array, string, integer, float, boolean, datetime, table, Members, get_member}
 use Rattle.bpf_insn.specs.declared.forms.Insn.{Insn}
+use Rattle.bpf_verify.specs.Accepted.{Accepted}
+use Rattle.bpf_verify.specs.Paths.{IsLongestPath}
+use Rattle.bpf_verify.proofs.VerdictLaws.{one_longest}
 use Rattle.clock_nodes.specs.Listings.{say_listing}
 use Rattle.scenario_text.specs.declared.scenario.Coins.{Coins}
 use Rattle.scenario_text.specs.declared.scenario.Coins.TheVariants.{Zeros, Ones, Chacha}
@@ -10,14 +13,17 @@ use Rattle.scenario_text.specs.declared.scenario.CoinEntry.{CoinEntry}
 use Rattle.scenario_text.specs.declared.scenario.Frame.{Frame}
 use Rattle.scenario_text.specs.declared.scenario.Kind.{Kind}
 use Rattle.scenario_text.specs.declared.scenario.Kind.TheVariants.{Clock, Say, Echo, Asm, Rule, Noise}
+use Rattle.scenario_text.specs.declared.scenario.Load.{Load}
 use Rattle.scenario_text.specs.declared.scenario.Scenario.{Scenario}
 use Rattle.scenario_text.specs.declared.scenario.Unload.{Unload}
 use Rattle.scenario_text.specs.Drafts.{CorruptDraft, Draft, LoadDraft}
 use Rattle.scenario_text.specs.Laws.{OneScenario}
 use Rattle.scenario_text.specs.Spelling.{HasKey, IsProgramOf, IsSaid, Spelled, SpelledCoin, SpelledCorrupt, SpelledLoad, SpelledUnload, SpellsClock, load_text}
 use Rattle.scenario_text.specs.Tables.{IsArray, IsNumber, IsTable, MayBeArray, ReadsEach}
-use Rattle.scenario_text.specs.Views.{draft_of}
+use Rattle.scenario_text.specs.Texts.{ReadsText}
+use Rattle.scenario_text.specs.Views.{FitsFrame, FitsLoad, draft_of, frame_of, load_draft}
 use Rattle.scenario_text.proofs.ClockLemmas.{one_clock, one_meaning, one_rule}
+use Rattle.scenario_text.proofs.EntryLemmas.{Each, loads_fit}
 use Rattle.scenario_text.proofs.FrameLemmas.{one_frame, one_number}
 use Rattle.scenario_text.proofs.NameLemmas.{nothing, one_coins, one_kind}
 
@@ -176,9 +182,55 @@ one_draft g ms d e first second =
       entries = maybe_array _ (one_table _ (one_coin f)) coin d.entries e.entries first.entries entries k;
     }
 
-pub one_scenario : OneScenario
-one_scenario text s other (members, document, reads) (others, same, read) =
+-- ---- accepted programs
+
+one_accepted : (f : Frame) (p q : Accepted) → FitsFrame f p → FitsFrame f q → p.program ≡ q.program → p ≡ q
+one_accepted f p q mine theirs same =
+    let shape : p.shape ≡ q.shape = mine.0 ∙ sym theirs.0 in
+    let budget : p.budget ≡ q.budget = one_longest p.program p.budget q.budget mine.2
+    (subst (λ (insns : List Insn). IsLongestPath insns q.budget) (sym same) theirs.2) in
+    λ k. record { program = same k; shape = shape k; budget = budget k }
+
+one_own : (f : Frame) (mine theirs : Option Accepted) → IfSome mine (FitsFrame f) → IfSome theirs (FitsFrame f)
+    → option_map (λ v. v.program) mine ≡ option_map (λ v. v.program) theirs → mine ≡ theirs
+one_own f None None fits fit same = refl
+one_own f None (Some q) fits fit same = absurd (nothing same)
+one_own f (Some p) None fits fit same = absurd (nothing (sym same))
+one_own f (Some p) (Some q) fits fit same =
+    let insns : p.program ≡ q.program = cc in
+    ap (λ v. Some v) (one_accepted f p q fits fit insns)
+
+one_programs : (f : Frame) (ls ms : List Load) → Each (FitsLoad f) ls → Each (FitsLoad f) ms
+    → map load_draft ls ≡ map load_draft ms → map (λ l. l.program) ls ≡ map (λ l. l.program) ms
+one_programs f [] [] fits fit same = refl
+one_programs f [] (m ∷ ms) fits fit same = absurd cc
+one_programs f (l ∷ ls) [] fits fit same = absurd cc
+one_programs f (l ∷ ls) (m ∷ ms) fits fit same =
+    let head : load_draft l ≡ load_draft m = cc in
+    let tail : map load_draft ls ≡ map load_draft ms = cc in
+    ap₂ (λ (p : Accepted) ps. p ∷ ps)
+    (one_accepted f l.program m.program fits.0 fit.0 (ap (λ (d : LoadDraft). d.program) head))
+    (one_programs f ls ms fits.1 fit.1 tail)
+
+-- ---- a text
+
+one_plain : (text : List ℕ) (s other : Scenario) → ReadsText text s → ReadsText text other → draft_of s ≡ draft_of other
+one_plain text s other (members, document, reads) (others, same, read) =
     let both : Some members ≡ Some others = sym document.2 ∙ same.2 in
     let table : members ≡ others = cc in
     one_draft s.loads.alloc members (draft_of s) (draft_of other) reads.spelled
     (subst (λ (ms : Members). Spelled ms (draft_of other)) (sym table) read.spelled)
+
+pub one_scenario : OneScenario
+one_scenario text s other reads read =
+    let plain = one_plain text s other reads read in
+    let f = frame_of s in
+    let frames : f ≡ frame_of other = ap (λ (d : Draft). d.frame) plain in
+    let clock = subst (λ (g : Frame). IfSome other.clock (FitsFrame g)) (sym frames) read.2.clock in
+    let fit = subst (λ (g : Frame). Each (FitsLoad g) other.loads.items) (sym frames) (loads_fit text other read) in
+    record {
+      plain = plain;
+      clock = one_own f s.clock other.clock reads.2.clock clock (ap (λ (d : Draft). d.clock) plain);
+      programs = one_programs f s.loads.items other.loads.items (loads_fit text s reads) fit
+          (ap (λ (d : Draft). d.loads) plain);
+    }

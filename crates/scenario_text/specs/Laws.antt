@@ -1,5 +1,5 @@
 -- What a refusal of a program says of the scenarios (docs/SCENARIOS.md, "Refusals"), and how many a text reads as.
-use Rattle.std.specs.Prelude.{◌≡◌, ℕ, ◌+◌, List, take}
+use Rattle.std.specs.Prelude.{◌≡◌, ℕ, ◌+◌, List, map, take}
 use Rattle.toml.specs.Data.{Members}
 use Rattle.scenario_text.specs.declared.limits.TheConstants.{MAX_TEXT}
 use Rattle.scenario_text.specs.declared.refusal.Place.{Place}
@@ -23,7 +23,13 @@ abbrev pub FrontIsDueAsWhole : Type 0
 FrontIsDueAsWhole = (text : List ℕ) (error : ScenarioError) → IsDueUnlessMemory (take (MAX_TEXT + 1) text) error
     → IsDueUnlessMemory text error
 
--- a text reads as at most one scenario: two have the same plain data
+-- the same plain data, and the same accepted programs: instructions, shape and announced count
+pub record IsSameScenario (s other : Scenario) : Type 0 where
+  pub plain : draft_of s ≡ draft_of other
+  pub clock : s.clock ≡ other.clock
+  pub programs : map (λ l. l.program) s.loads.items ≡ map (λ l. l.program) other.loads.items
+
+-- a text reads as at most one scenario
 abbrev pub OneScenario : Type 0
 OneScenario = (text : List ℕ) (s other : Scenario) → ReadsText text s → ReadsText text other
-    → draft_of s ≡ draft_of other
+    → IsSameScenario s other

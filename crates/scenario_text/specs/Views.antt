@@ -3,6 +3,7 @@ use Rattle.std.specs.Prelude.{◌≡◌, ℕ, Bool, not, ◌&&◌, nat_le, map, 
 use Rattle.toml.specs.Data.{Members}
 use Rattle.node_env.specs.Env.{Extent}
 use Rattle.bpf_verify.specs.Accepted.{Accepted}
+use Rattle.bpf_verify.specs.Paths.{IsLongestPath}
 use Rattle.bpf_verify.specs.Typable.{Typable}
 use Rattle.scenario_text.specs.declared.limits.TheConstants.{CLOCK_VERSION}
 use Rattle.scenario_text.specs.declared.scenario.Scenario.{Scenario}
@@ -65,9 +66,13 @@ is_strict f own = own && not f.zero_agrees
 abbrev pub extent_of : Frame → Extent
 extent_of f = record { nodes = f.nodes; memory = f.memory }
 
--- the program is accepted for the scenario's shape
+-- the program is accepted for this shape, and its announced count is its longest path
+abbrev pub IsAcceptedFor : Extent → Accepted → Type 0
+IsAcceptedFor shape p = (p.shape ≡ shape) × Typable p.program shape × IsLongestPath p.program p.budget
+
+-- for the scenario's shape
 abbrev pub FitsFrame : Frame → Accepted → Type 0
-FitsFrame f p = (p.shape ≡ extent_of f) × Typable p.program (extent_of f)
+FitsFrame f p = IsAcceptedFor (extent_of f) p
 
 -- a load's program is
 abbrev pub FitsLoad : Frame → Load → Type 0

@@ -13,7 +13,8 @@ pub fn front_reads_as_whole()
     ensures due { FrontIsDueAsWhole }
 {}
 
-/// States that a text reads as at most one scenario, as plain data.
+/// States that a text reads as at most one scenario: two have the same plain data and the same accepted programs, with
+/// their announced counts.
 pub fn one_scenario()
     ensures { OneScenario }
 {}

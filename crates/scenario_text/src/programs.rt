@@ -1,5 +1,5 @@
 //! Programs that texts mean, and their acceptance.
-ghost use Rattle.std.specs.Prelude.{◌≡◌, List, IfOk, IfErr, OnOk, length};
+ghost use Rattle.std.specs.Prelude.{◌≡◌, List, IfOk, IfErr, length};
 ghost use Rattle.toml.specs.Data.{get_member};
 ghost use Rattle.toml.specs.View.{table_view};
 ghost use Rattle.bpf_insn.specs.declared.forms.Insn.{Insn};
@@ -10,7 +10,7 @@ ghost use Rattle.node_env.specs.Env.{IsExtent};
 ghost use Rattle.bpf_verify.specs.Accepted.{IsFirstBroken};
 ghost use Rattle.scenario_text.specs.Faults.{Excludes, Refuses};
 ghost use Rattle.scenario_text.specs.Spelling.{MeansAt, MeansRuleAt};
-ghost use Rattle.scenario_text.specs.Views.{extent_of};
+ghost use Rattle.scenario_text.specs.Views.{IsAcceptedFor, extent_of};
 
 use crate::refusal::{Place, ScenarioError};
 use crate::scenario::Frame;
@@ -61,7 +61,7 @@ pub(crate) fn rule_in(
     requires { shape ≡ extent_of frame }
     ensures program { IfOk result (λ v.
         MeansRuleAt frame (get_member key.entry.now (table_view table.now)) v.program) }
-    ensures fits { IfOk result (λ v. (v.shape ≡ shape) × Typable v.program shape) }
+    ensures fits { IfOk result (IsAcceptedFor shape) }
     ensures refused { IfErr result (λ e. Excludes e ((insns : List Insn) →
         MeansRuleAt frame (get_member key.entry.now (table_view table.now)) insns → ⊥)) }
 {
@@ -82,7 +82,8 @@ pub(crate) fn rule_in(
 /// Returns a listing, accepted.
 fn taken(alloc: Global, listing: &Program, shape: Shape) -> Result<VerifiedProgram, AllocError>
     requires { Typable listing.now shape }
-    ensures { IfOk result (λ v. (v.program ≡ listing.now) × (v.shape ≡ shape)) }
+    ensures program { IfOk result (λ v. v.program ≡ listing.now) }
+    ensures fits { IfOk result (IsAcceptedFor shape) }
 {
     match verify(alloc, listing, shape) {
         Ok(verified) => Ok(verified),
@@ -101,7 +102,7 @@ pub(crate) fn rule_clock(
     requires extent { IsExtent shape.nodes shape.memory }
     requires nodes { rule.nodes ≡ shape.nodes }
     ensures program { IfOk result (λ v. v.program ≡ clock_listing rule) }
-    ensures fits { IfOk result (λ v. (v.shape ≡ shape) × Typable v.program shape) }
+    ensures fits { IfOk result (IsAcceptedFor shape) }
 {
     let listing = dolev_welch(alloc, shape, rule)?;
     taken(alloc, &listing, shape)
@@ -111,7 +112,7 @@ pub(crate) fn rule_clock(
 pub(crate) fn echo_program(alloc: Global, shape: Shape) -> Result<VerifiedProgram, AllocError>
     requires extent { IsExtent shape.nodes shape.memory }
     ensures program { IfOk result (λ v. v.program ≡ echo_listing shape.nodes) }
-    ensures fits { IfOk result (λ v. (v.shape ≡ shape) × Typable v.program shape) }
+    ensures fits { IfOk result (IsAcceptedFor shape) }
 {
     let listing = echo(alloc, shape)?;
     taken(alloc, &listing, shape)
@@ -126,7 +127,7 @@ pub fn say_program(
     requires extent { IsExtent shape.nodes shape.memory }
     requires values { length values.now ≡ shape.nodes }
     ensures program { IfOk result (λ v. v.program ≡ say_listing values.now) }
-    ensures fits { IfOk result (λ v. (v.shape ≡ shape) × Typable v.program shape) }
+    ensures fits { IfOk result (IsAcceptedFor shape) }
 {
     let listing = say(alloc, shape, values)?;
     taken(alloc, &listing, shape)
@@ -140,8 +141,8 @@ pub(crate) fn accepted(
     place: Place,
     key: &'static str,
 ) -> Result<VerifiedProgram, ScenarioError>
-    ensures program { IfOk result (λ v. (v.program ≡ program.now) × (v.shape ≡ shape)) }
-    ensures typable { OnOk result (Typable program.now shape) }
+    ensures program { IfOk result (λ v. v.program ≡ program.now) }
+    ensures fits { IfOk result (IsAcceptedFor shape) }
     ensures refused { IfErr result (λ e. Refuses e ⊥ (λ p slot. (p ≡ place) × IsFirstBroken program.now shape slot)) }
 {
     match verify(alloc, program, shape) {

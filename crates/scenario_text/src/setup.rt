@@ -1,7 +1,6 @@
 //! The frame of a scenario, with what is made of its numbers, and its programs.
 ghost use Rattle.std.specs.Prelude.{◌≡◌, ◌↔◌, List, None, Option, IfErr, IfOk, IfSome, IsTrue, MatchOption, codes, option_map};
 ghost use Rattle.bpf_insn.specs.declared.forms.Insn.{Insn};
-ghost use Rattle.bpf_verify.specs.Typable.{Typable};
 ghost use Rattle.clock_nodes.specs.Listings.{clock_listing};
 ghost use Rattle.clock_nodes.specs.Rule.{IsRule};
 ghost use Rattle.node_env.specs.Env.{IsExtent};
@@ -13,7 +12,7 @@ ghost use Rattle.scenario_text.specs.Faults.{Excludes, Refuses};
 ghost use Rattle.scenario_text.specs.inner.Setups.{IsReadingSetup, own_clock};
 ghost use Rattle.scenario_text.specs.declared.scenario.ClockKey.TheVariants.{Clock as ClockText};
 ghost use Rattle.scenario_text.specs.Spelling.{SpellsClock, HasNoText, MeansAt, MeansClock, MeansRuleAt, clock_insns, clock_key, clock_rule_of};
-ghost use Rattle.scenario_text.specs.Views.{FitsFrame, extent_of};
+ghost use Rattle.scenario_text.specs.Views.{FitsFrame, IsAcceptedFor, extent_of};
 
 use crate::programs::{accepted, echo_program, program_in, rule_clock, rule_in};
 use crate::refusal::{Place, ScenarioError};
@@ -44,7 +43,7 @@ fn text_clock(
 ) -> Result<Option<VerifiedProgram>, ScenarioError>
     ensures clock { IfOk result (λ clock. MatchOption clock (get_member (codes "clock") (table_view table.now) ≡ None)
         (λ v. MeansAt (get_member (codes "clock") (table_view table.now)) v.program)) }
-    ensures fits { IfOk result (λ clock. IfSome clock (λ v. (v.shape ≡ shape) × Typable v.program shape)) }
+    ensures fits { IfOk result (λ clock. IfSome clock (IsAcceptedFor shape)) }
     ensures refused { IfErr result (λ e. Refuses e
         ((get_member (codes "clock") (table_view table.now) ≡ None → ⊥)
         × ((insns : List Insn) → MeansAt (get_member (codes "clock") (table_view table.now)) insns → ⊥))
@@ -68,7 +67,7 @@ fn ruled_clock(
     requires { shape ≡ extent_of frame }
     ensures clock { IfOk result (λ clock. MatchOption clock (get_member (codes "rule") (table_view table.now) ≡ None)
         (λ v. MeansRuleAt frame (get_member (codes "rule") (table_view table.now)) v.program)) }
-    ensures fits { IfOk result (λ clock. IfSome clock (λ v. (v.shape ≡ shape) × Typable v.program shape)) }
+    ensures fits { IfOk result (λ clock. IfSome clock (IsAcceptedFor shape)) }
     ensures refused { IfErr result (λ e. Excludes e
         ((get_member (codes "rule") (table_view table.now) ≡ None → ⊥)
         × ((insns : List Insn) → MeansRuleAt frame (get_member (codes "rule") (table_view table.now)) insns → ⊥))) }
@@ -91,7 +90,7 @@ fn clock_in(
     requires { shape ≡ extent_of frame }
     ensures clock { IfOk result (λ clock. MatchOption clock (HasNoText key (table_view table.now))
         (λ v. MeansClock frame key (table_view table.now) v.program)) }
-    ensures fits { IfOk result (λ clock. IfSome clock (λ v. (v.shape ≡ shape) × Typable v.program shape)) }
+    ensures fits { IfOk result (λ clock. IfSome clock (IsAcceptedFor shape)) }
     ensures refused { IfErr result (λ e. Refuses e
         ((HasNoText key (table_view table.now) → ⊥)
         × ((insns : List Insn) → MeansClock frame key (table_view table.now) insns → ⊥))
@@ -133,7 +132,7 @@ fn clock_at(
     requires rule_is { rule ≡ clock_rule_of frame }
     ensures clock { IfOk result (λ clock.
         SpellsClock frame (table_view table.now) (option_map (λ v. v.program) clock)) }
-    ensures fits { IfOk result (λ clock. IfSome clock (λ v. (v.shape ≡ shape) × Typable v.program shape)) }
+    ensures fits { IfOk result (λ clock. IfSome clock (IsAcceptedFor shape)) }
     ensures refused { IfErr result (λ e. Refuses e ((clock : Option (List Insn)) →
         SpellsClock frame (table_view table.now) clock → ⊥)
         (λ p slot. (p ≡ Top) × (key ≡ ClockText)

@@ -1,5 +1,5 @@
 -- What was tested of a bed makes it a bench of clocks.
-use Rattle.std.proofs.Common.{◌≡◌, ℕ, ◌*◌, ◌^◌, ◌<◌, ◌≤◌, ◌+◌, not, Bool, true, false, List, Contains, inl, sym, subst, arith}
+use Rattle.std.proofs.Common.{◌≡◌, ℕ, ◌*◌, ◌^◌, ◌<◌, ◌≤◌, ◌+◌, not, Bool, true, false, List, None, Contains, inl, sym, subst, arith}
 use Rattle.bpf_verify.specs.Accepted.{Accepted}
 use Rattle.quorums.specs.Counts.{count}
 use Rattle.bench_core.specs.Setup.{IsSetup}
@@ -19,14 +19,15 @@ pub is_bench : (bed : Bed) (numbers : List ℕ) (empty : ℕ) → IsSetup bed.se
     → 3 * bed.setup.faults < bed.setup.shape.nodes → empty ≤ bed.setup.faults
     → empty ≡ count bed.setup.shape.nodes (λ j. not (is_loaded bed j))
     → ((i : ℕ) (p : Accepted) → IsLoaded bed i p → RunsRule bed p) → numbers ≡ bed.lies
-    → ((m : ℕ) → Contains numbers m → m < 2 ^ 32) → IsClockBench bed
-is_bench bed numbers empty setup third few counted runs same small = record {
+    → ((m : ℕ) → Contains numbers m → m < 2 ^ 32) → bed.aim ≡ None → IsClockBench bed
+is_bench bed numbers empty setup third few counted runs same small aim = record {
   setup = setup;
   third = third;
   few = omega (arith, few, counted);
   clocks = λ i p ok. inl (runs i p ok);
   lies = λ m is. allowed_small bed.any bed.lies
       (subst (λ (l : List ℕ). (m : ℕ) → Contains l m → m < 2 ^ 32) same small) m is;
+  aim = aim;
 }
 
 -- so it may stabilise from every start, within that many pulses

@@ -9,7 +9,7 @@ use Rattle.std.proofs.lemmas.List.{get_or-replicate, length-replicate}
 use Rattle.bpf_verify.specs.Accepted.{Accepted}
 use Rattle.clock_nodes.specs.Rule.{clock_of, clock_below}
 use Rattle.rule_syntax.specs.declared.syntax.Sizes.{Sizes}
-use Rattle.rule_nodes.specs.Meaning.{word_at}
+use Rattle.rule_meaning.specs.Meaning.{word_at}
 use Rattle.rule_steps.specs.Steps.{Between, EachCorrect}
 use Rattle.clock_steps.specs.Claims.{node_clock, mark_in, common}
 use Rattle.clock_steps.proofs.Pulse.{clock_is}
@@ -18,6 +18,7 @@ use Rattle.clock_steps.proofs.Luck.{Has, Low}
 use Rattle.bench_core.specs.State.{AreCoins}
 use Rattle.bench_moves.specs.Bed.{Agrees, AgreeTwo, Bed, IsLoaded, KeepsStep, told}
 use Rattle.bench_moves.specs.Space.{Config, IsConfigOf, Moves, memory_at}
+use Rattle.bench_moves.proofs.Aiming.{clocks_keep}
 use Rattle.sized_benches.specs.Benches.{IsClockBench, IsCommonAt, IsUniform, MovesBy, is_loaded, node_in, bed_sizes}
 use Rattle.sized_benches.proofs.Coins.{moves_by}
 use Rattle.sized_benches.proofs.OnePulse.{agree, common_next, common_one, low_next, small, some_low}
@@ -131,7 +132,7 @@ module _ (bed : Bed) (is : IsClockBench bed) where
       → KeepsStep bed (memory_at x) (memory_at y)
   common_keeps c x y before after =
       let d = (c + 1) % modulus in
-      record {
+      clocks_keep bed (memory_at x) (memory_at y) (sym is.aim) (record {
         equal = λ i j ok_i ok_j.
             told_common d y after i ok_i.0 ok_i.1 ∙ sym (told_common d y after j ok_j.0 ok_j.1);
         goes_on = λ i ok.
@@ -139,7 +140,7 @@ module _ (bed : Bed) (is : IsClockBench bed) where
               subst (λ (v : ℕ). v < modulus) (sym was) before.below,
               told_common d y after i ok.0 ok.1 ∙ ap (λ (v : ℕ). (v + 1) % modulus) (sym was),
             );
-      }
+      })
 
   -- after a transition from nodes of which each sent one number the marked clocks are one
   pub goes_low : (x y : Config) (left : ℕ → List ℕ) (rows : ℕ → FinMap nat_cmp ℕ) → IsUniform bed x

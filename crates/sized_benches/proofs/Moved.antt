@@ -15,7 +15,7 @@ use Rattle.clock_nodes.proofs.ClockRuns.{clock_ends_so, clock_has_runs}
 use Rattle.clock_nodes.proofs.Pairs.{clock_small}
 use Rattle.rule_syntax.specs.declared.syntax.Sizes.{Sizes}
 use Rattle.rule_syntax.specs.declared.syntax.Statement.{Statement}
-use Rattle.rule_nodes.specs.Meaning.{bit_of, truth, count_below, word_at, with_memory_word, message_from}
+use Rattle.rule_meaning.specs.Meaning.{bit_of, truth, count_below, word_at, with_memory_word, message_from}
 use Rattle.rule_nodes.specs.Ends.{AreSizes}
 use Rattle.rule_nodes.proofs.Whole.{rule_ends_so, rule_has_runs}
 use Rattle.rule_nodes.proofs.Words.{word_bytes}

@@ -4,7 +4,7 @@ use Rattle.std.specs.Prelude.{IsTrue}
 use Rattle.std.proofs.lemmas.Bool.{and_parts, and_from, eqb-true, eq-eqb, both_ways}
 use Rattle.node_env.specs.Env.{Setting}
 use Rattle.rule_syntax.specs.declared.syntax.Sizes.{Sizes}
-use Rattle.rule_nodes.specs.Meaning.{word_at}
+use Rattle.rule_meaning.specs.Meaning.{word_at}
 use Rattle.quorums.specs.Counts.{HasFewFaults}
 use Rattle.rule_steps.specs.Steps.{Between, IsBetween, Sees, EachCorrect}
 use Rattle.clock_steps.specs.Claims.{node_clock, mark_in}

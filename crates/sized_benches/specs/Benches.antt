@@ -40,13 +40,15 @@ pub record IsClockCode (bed : Bed) (p : Accepted) : Type 0 where
   pub fits : BlockFits rule (bed_sizes bed) 0 0
   pub code : p.program ≡ rule_code rule (bed_sizes bed)
 
--- n > 3f; at most f nodes have no program; the others run the built-in clock, or the code of its rule
+-- n > 3f; at most f nodes have no program; the others run the built-in clock, or the code of its rule; each pulse is to
+-- keep the clocks' step
 pub record IsClockBench (bed : Bed) : Type 0 where
   pub setup : IsSetup bed.setup
   pub third : 3 * bed.setup.faults < bed.setup.shape.nodes
   pub few : HasFewFaults bed.setup.shape.nodes bed.setup.faults (is_loaded bed)
   pub clocks : (i : ℕ) (p : Accepted) → IsLoaded bed i p → RunsRule bed p ⊎ IsClockCode bed p
   pub lies : (number : ℕ) → MayLie bed number → number < 2 ^ 32
+  pub aim : bed.aim ≡ None
 
 -- they exist: of each setup with n > 3f, with every choice of at most f nodes that have no program
 abbrev pub ClockBenchesExist : Type 0

@@ -1,7 +1,7 @@
 //! Numbers and conditions of a claim, in the state that begins a step.
 ghost use Rattle.std.specs.Prelude.{◌≡◌, IfSome, IsTrue};
 ghost use Rattle.node_env.specs.Env.{Setting};
-ghost use Rattle.rule_nodes.specs.Meaning.{word_at};
+ghost use Rattle.rule_meaning.specs.Meaning.{word_at};
 ghost use Rattle.step_searches.specs.Claims.{coins_meet, meets, quantity, total};
 ghost use Rattle.step_beginnings.specs.Beginnings.{free_numbers, beginning_sizes, beginning_state};
 

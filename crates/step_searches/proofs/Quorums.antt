@@ -5,7 +5,7 @@ use Rattle.std.proofs.lemmas.Bool.{cases_lt, lt-ltb, le-ltb, not-true}
 use Rattle.rule_nodes.proofs.Small.{truth_of}
 use Rattle.node_env.specs.Env.{Setting}
 use Rattle.rule_syntax.specs.declared.syntax.Sizes.{Sizes}
-use Rattle.rule_nodes.specs.Meaning.{bit_of, truth, count_below, word_at, message_from, value}
+use Rattle.rule_meaning.specs.Meaning.{bit_of, truth, count_below, word_at, message_from, value}
 use Rattle.rule_nodes.proofs.Words.{word_small}
 use Rattle.quorums.specs.Counts.{HasFewFaults}
 use Rattle.rule_steps.specs.Steps.{Between, IsBetween, Sees, EachCorrect, EachTwo}

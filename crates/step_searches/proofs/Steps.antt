@@ -7,7 +7,7 @@ use Rattle.node_env.specs.Env.{Setting}
 use Rattle.clock_nodes.specs.Ends.{IsSentTo}
 use Rattle.rule_syntax.specs.declared.syntax.Sizes.{Sizes}
 use Rattle.rule_syntax.specs.declared.syntax.Statement.{Statement}
-use Rattle.rule_nodes.specs.Meaning.{word_at, pulse}
+use Rattle.rule_meaning.specs.Meaning.{word_at, pulse}
 use Rattle.quorums.specs.Counts.{HasFewFaults}
 use Rattle.rule_steps.specs.Steps as steps
 use Rattle.rule_steps.specs.Steps.{Between, IsBetween, Sees, NodeBecomes, EachCorrect, EachTwo, Stepped, AreSmall}

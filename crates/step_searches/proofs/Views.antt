@@ -3,7 +3,7 @@ use Rattle.std.proofs.Common.{◌≡◌, ℕ, ◌+◌, ◌<◌, ◌≤◌, nat_l
 use Rattle.std.specs.Prelude.{◌⊎◌}
 use Rattle.std.proofs.lemmas.Bool.{leb-true, leb-false, and_parts, and_cases}
 use Rattle.rule_syntax.specs.declared.syntax.Sizes.{Sizes}
-use Rattle.rule_nodes.specs.Meaning.{word_at}
+use Rattle.rule_meaning.specs.Meaning.{word_at}
 use Rattle.rule_steps.specs.Steps.{Between}
 use Rattle.rule_paths.specs.Relations.{Variable, Numbers, AgreeBelow, IsSettled, Settles}
 use Rattle.rule_paths.specs.Stores.{AreSizeNumbers}

@@ -2,7 +2,7 @@
 use Rattle.std.specs.Prelude.{ℕ, ◌+◌, ◌*◌, ◌<◌, ◌==◌, nat_le, Bool, true, ◌&&◌, ◌||◌}
 use Rattle.node_env.specs.Env.{Setting}
 use Rattle.rule_syntax.specs.declared.syntax.Sizes.{Sizes}
-use Rattle.rule_nodes.specs.Meaning.{word_at}
+use Rattle.rule_meaning.specs.Meaning.{word_at}
 use Rattle.rule_steps.specs.Steps.{Between, Claim}
 use Rattle.step_searches.specs.declared.claims.Quantity.{Quantity}
 use Rattle.step_searches.specs.declared.claims.Quantity.TheVariants.{Number, Nodes, Faults, Modulus, Free, FirstSent, FirstWord, SecondSent, SecondWord}

@@ -15,6 +15,7 @@ fn bench_moves_example(rt: HostRuntime) -> Result<(), Fail> {
         rule,
         clock,
         own: false,
+        aim: None,
     };
     let programs = vec![in rt.alloc(); Some(program)]?;
     let bed = Bed::new(rt.alloc(), setup, programs, Messages::All)?;

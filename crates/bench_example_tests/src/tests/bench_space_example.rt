@@ -18,6 +18,7 @@ fn bench_space_example(rt: HostRuntime) -> Result<(), Fail> {
         rule,
         clock,
         own: false,
+        aim: None,
     };
     let programs = vec![in rt.alloc(); Some(program)]?;
     let bed = Bed::new(rt.alloc(), setup, programs, Messages::All)?;

@@ -1,8 +1,7 @@
-use Rattle.commands.proofs.SameScenarios.{same_data}
-use Rattle.commands.proofs.SameTexts.{same_lines_text}
+use Rattle.commands.proofs.SameTexts.{lines_back}
 use Rattle.commands.proofs.laws.one_json_of_text.Goals as goal
 
 pub returns : goal.returns
-returns c = λ text s t form told other agrees verdict read reread.
-    same_lines_text s t (same_data c.one_scenario.ensures text s t read reread) c.one_run.ensures
-    c.one_showing.ensures form told other agrees verdict
+returns c = λ text s t form told other agrees verdict read reread first second.
+    c.one_text_of_lines.ensures s form told other agrees verdict first
+    (lines_back s t (c.one_scenario.ensures text s t read reread) form other verdict second)

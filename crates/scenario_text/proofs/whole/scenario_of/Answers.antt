@@ -1,5 +1,5 @@
-use Rattle.std.proofs.Common.{◌≡◌, ℕ, List, ◌++◌, map, rules, subst, sym, ◌∙◌}
-use Rattle.std.specs.Prelude.{Option, codes, option_to_list, true}
+use Rattle.std.proofs.Common.{◌≡◌, ℕ, List, map, rules, subst, sym, ◌∙◌}
+use Rattle.std.specs.Prelude.{Option, codes, true}
 use Rattle.bpf_insn.specs.declared.forms.Insn.{Insn}
 use Rattle.toml.specs.Data.{get_member}
 use Rattle.toml.specs.View.{table_view}
@@ -11,8 +11,6 @@ use Rattle.scenario_text.specs.Spelling.{SpellsClock, HasFrame, clock_key, Spell
 use Rattle.scenario_text.specs.declared.scenario.Load.{Load as LoadValue}
 use Rattle.scenario_text.specs.Noise.{HasNoise}
 use Rattle.scenario_text.specs.inner.Setups.{own_clock}
-use Rattle.scenario_text.specs.Keys.{names_of}
-use Rattle.scenario_text.specs.declared.keys.TheConstants.{TOP_KEYS}
 use Rattle.scenario_text.specs.Tables.{IsTable, MayBeArray, knows}
 use Rattle.scenario_text.specs.Views.{load_draft, corrupt_of, extent_of}
 use Rattle.scenario_text.proofs.FrameLemmas.{excludes, refuses, refuses_more}
