@@ -37,7 +37,9 @@ load = [{pulse = 1, nodes = [0, 1, 2, 3], program = "clock"}]
 """
 OWN = b"mov64 r0, 7\nexit\n"
 RULE = text("examples/rules/clock.rule")
-RULE_FILE, CLAIMS_FILE = (str(TOP / "examples" / it) for it in ("rules/clock.rule", "claims/clock.claims"))
+RULE_FILE, CLAIMS_FILE, PROPERTIES_FILE = (
+    str(TOP / "examples" / it) for it in ("rules/clock.rule", "claims/clock.claims", "properties/clock.claims")
+)
 CERTIFICATES = text("examples/certificates/clock.txt")
 WORDS = b"state a, b, c, d\nd = clock\nsend d\n"
 LOOP = bytes.fromhex("0500ffff00000000")
@@ -79,6 +81,7 @@ ROWS = {
     ("run", "from"): (["--json"], AGREED, "3"),
     ("run", "until"): (["--json"], AGREED, "3"),
     ("run", "trace"): ([], AGREED, "3:0"),
+    ("run", "claims"): ([], AGREED, PROPERTIES_FILE),
     ("stress", "loaders"): ([], b"", "1"),
     ("stress", "loads"): ([], b"", "3"),
     ("stress", "pulses"): ([], b"", "3"),

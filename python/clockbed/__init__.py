@@ -9,6 +9,8 @@ from clockbed.answers import (
     Ask,
     By,
     Bytes,
+    Claim,
+    Claims,
     ClockKind,
     Explored,
     Frame,
@@ -36,8 +38,8 @@ from clockbed.scenario import Bench, Load, Scenario
 from clockbed.tables import Table, table
 
 __all__ = [
-    "Agreement", "Ask", "Bench", "By", "Bytes", "ClockKind", "ClockbedError", "Explored", "Fault", "Frame", "Limit",
-    "Load", "Mean", "NotFinished", "Odds", "ProgramKind", "ProgramMissing", "Pulse", "Ran", "Reach", "Rejected", "Run",
-    "Scenario", "Stabilisation", "Staged", "Start", "Step", "Summary", "Sweep", "SweepRow", "Table", "Trace",
-    "Verified", "plot", "table",
+    "Agreement", "Ask", "Bench", "By", "Bytes", "Claim", "Claims", "ClockKind", "ClockbedError", "Explored", "Fault",
+    "Frame", "Limit", "Load", "Mean", "NotFinished", "Odds", "ProgramKind", "ProgramMissing", "Pulse", "Ran", "Reach",
+    "Rejected", "Run", "Scenario", "Stabilisation", "Staged", "Start", "Step", "Summary", "Sweep", "SweepRow", "Table",
+    "Trace", "Verified", "plot", "table",
 ]  # fmt: skip

@@ -400,6 +400,59 @@ class Verified:
 
 
 @dataclass(frozen=True)
+class Claim:
+    """Is a property of a file, with its verdict in each pulse and its answer. A verdict is None if the property speaks of
+    no node.
+    """
+
+    line: int
+    text: str
+    answer: str
+    verdicts: tuple[bool | None, ...]
+
+    @property
+    def holds(self) -> bool | None:
+        """Whether the run keeps the property; None if no pulse was judged."""
+        return None if self.answer == "no pulse was judged" else self.answer.startswith("holds")
+
+
+@dataclass(frozen=True)
+class Claims:
+    """Is what a run says of properties (docs/PROPERTIES.md).
+
+    >>> from clockbed import Bench
+    >>> claims = Bench().claims("always p.clock == q.clock\\neventually always p.mark == 1", coins="ones")
+    >>> [(it.holds, it.answer) for it in claims.each]
+    [(True, 'holds in 19 pulses'), (True, 'holds from pulse 2 on')]
+    """
+
+    each: tuple[Claim, ...]
+
+    @property
+    def hold(self) -> bool:
+        """Whether no property is violated."""
+        return all(it.holds is not False for it in self.each)
+
+    @classmethod
+    def read(cls, text: str) -> Claims:
+        """Reads what `clockbed run --claims` wrote."""
+        rows = [found[1].split() for found in re.finditer(r"^pulse \d+ claims (.*)$", text, re.M)]
+        answers = list(re.finditer(r"^line (\d+): (.*)\n  (.*)$", text, re.M))
+        verdicts = zip(*rows) if rows else [()] * len(answers)
+        words = {"yes": True, "no": False, "none": None}
+        return cls(
+            tuple(
+                Claim(int(found[1]), found[2], found[3], tuple(words[it] for it in column))
+                for found, column in zip(answers, verdicts)
+            )
+        )
+
+    def row(self) -> dict[str, object]:
+        """Returns a row of a table: each property with its answer."""
+        return {it.text: it.answer for it in self.each}
+
+
+@dataclass(frozen=True)
 class Step:
     """Is a step of a node's run. `rule_line` is the line of the rule that made the instruction, if there is one."""
 

@@ -13,7 +13,7 @@ from fractions import Fraction
 from typing import Union
 
 from clockbed import program
-from clockbed.answers import Explored, ProgramKind, Run, Sweep, Trace, Verified
+from clockbed.answers import Claims, Explored, ProgramKind, Run, Sweep, Trace, Verified
 from clockbed.errors import NotFinished
 from clockbed.program import Progress
 
@@ -43,6 +43,17 @@ class Scenario:
     def run(self) -> Run:
         """Runs the scenario."""
         return Run.read(program.ask(["run", "--json"], self.text).text)
+
+    def claims(self, properties: str) -> Claims:
+        """Runs the scenario, and judges each pulse by properties, a line each (docs/PROPERTIES.md).
+
+        >>> Bench().scenario(3).claims("always p.tick == 0")
+        Traceback (most recent call last):
+        clockbed.errors.Rejected: refused claims UnknownName line 1 column 10
+        note: line 1, column 10 of the claims: names are n, f, M, none, p.me, p.clock and p.before.clock, with the words of the rule; likewise of q
+        """
+        with text_file(properties, ".claims") as file:
+            return Claims.read(program.ask(["run", "--claims", file], self.text).text)
 
     def trace(self, pulse: int, node: int) -> Trace:
         """Returns each step of a node in a pulse."""
@@ -90,8 +101,14 @@ def option_words(options: dict[str, Option]) -> Iterator[list[str]]:
 def images_file(images: object) -> Iterator[str]:
     if not isinstance(images, Iterable):
         raise TypeError(f"images are memories in hexadecimal, not {images!r}")
-    with tempfile.NamedTemporaryFile("w", suffix=".txt", encoding="ascii") as file:
-        file.writelines(f"{it}\n" for it in images)
+    with text_file("".join(f"{it}\n" for it in images), ".txt") as file:
+        yield file
+
+
+@contextlib.contextmanager
+def text_file(text: str, suffix: str) -> Iterator[str]:
+    with tempfile.NamedTemporaryFile("w", suffix=suffix, encoding="utf-8") as file:
+        file.write(text)
         file.flush()
         yield file.name
 
@@ -209,6 +226,10 @@ class Bench:
     def run(self, pulses: int = 20, key: int | None = None, coins: str = "zeros") -> Run:
         """Runs the bench once. `coins` are "zeros" or "ones"; with a seed (`key`) they are random."""
         return self.scenario(pulses, key, coins).run()
+
+    def claims(self, properties: str, pulses: int = 20, key: int | None = None, coins: str = "zeros") -> Claims:
+        """Runs the bench, and judges each pulse by properties, a line each (docs/PROPERTIES.md)."""
+        return self.scenario(pulses, key, coins).claims(properties)
 
     def trace(self, pulse: int, node: int, key: int | None = None, coins: str = "zeros") -> Trace:
         """Returns each step of a node in a pulse."""
