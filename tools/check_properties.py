@@ -4,7 +4,9 @@
 Of each example (examples/properties/) and of drawn properties on examples, the verdicts are judged here by the memories
 and the settled nodes that `run --json` tells (docs/PROPERTIES.md), with terms that are drawn as trees: their text is for
 the program, their number is computed here. The report before them must be that of `run`, for each number of workers. The
-status of `--check` must be that of the answers, and each wrong text must be refused where its first error is.
+lines of `--json` must say the same, and the status of `--check` must be that of the answers. Each wrong text must be
+refused where its first error is. Each row of `sweep --claims` must be that of the answers of `run --claims` on the
+scenario with its key.
 """
 import json
 import random
@@ -34,6 +36,15 @@ SCENARIOS = {
     "clocks/king.toml": ["clock", "round", "sure"],
     "properties/consensus.toml": ["clock", "round", "value", "sure", "decided"],
 }
+# Scenarios whose coins or messages a key decides, on which properties are drawn for sweeps, with the words of the memory.
+SWEPT = {
+    "chacha.toml": ["clock", "mark"],
+    "noise.toml": ["clock", "mark"],
+    "luck/four.toml": ["clock", "mark"],
+    "properties/consensus.toml": ["clock", "round", "value", "sure", "decided"],
+    "properties/vote.toml": ["clock", "round", "value"],
+}
+SWEEPS, KEYS = 10, 5
 # Wrong texts about the built-in clock, with the line that refuses each.
 WRONG = [
     ("", "Expected line 1 column 1"),
@@ -196,21 +207,37 @@ def answer_of(head, first, verdicts):
     return f"violated in the last judged pulse, {pulse}, by nodes {one} and {other}", False
 
 
+def told_of(head, first, verdicts):
+    """The answer as members of JSON."""
+    counted = [(pulse, said) for pulse, said in verdicts if pulse > first and said is not None]
+    wrong = [(pulse, said) for pulse, said in counted if said is not True]
+    told = {"judged": len(counted), "violated": len(wrong), "answer": "violated" if wrong else "holds"}
+    if wrong:
+        told |= {"last": wrong[-1][0], "nodes": list(wrong[-1][1])}
+    later = [pulse for pulse, _said in counted if not wrong or pulse > wrong[-1][0]]
+    if head == "eventually always" and later:
+        told |= {"answer": "holds", "from": later[0]}
+    return told if counted else {**told, "answer": "none"}
+
+
 def expected(report, pulses, words, properties):
-    """The text of `run --claims`, and whether no property is violated."""
+    """The text of `run --claims`, its lines of JSON, and whether no property is violated."""
     said = [
         [(it["pulse"], verdict(judged(pulses, at, words, back), value)) for at, it in enumerate(pulses)]
         for _line, _text, _head, _first, value, back in properties
     ]
-    text, holds = report, True
+    text, told, holds = report, [], True
     for at, pulse in enumerate(pulses):
         shown = [{None: "none", True: "yes"}.get(one[at][1], "no") for one in said]
         text += f"pulse {pulse['pulse']} claims {' '.join(shown)}\n"
+        told.append({"pulse": pulse["pulse"], "claims": shown})
     for (line, shown, head, first, _value, _back), verdicts in zip(properties, said):
         answered, fine = answer_of(head.split(" ")[0] if "within" in head else head, first, verdicts)
         text += f"line {line}: {shown}\n  {answered}\n"
+        told.append({"line": line, "claim": shown, **told_of(head, first, verdicts)})
         holds = holds and fine
-    return text, holds
+    lines = "".join(json.dumps(it, sort_keys=True, separators=(",", ":")) + "\n" for it in told)
+    return text, lines, holds
 
 
 # ---- trials
@@ -224,17 +251,20 @@ def run_of(program, scenario):
     return given, report, lines, {"n": frame["nodes"], "f": frame["faults"], "M": frame["modulus"]}
 
 
-def tried(program, name, given, text, wanted, holds):
+def tried(program, name, given, text, wanted):
     """The differences between what the program says of a text of properties and what is wanted."""
+    report, lines, holds = wanted
     found = []
     with tempfile.NamedTemporaryFile("w", suffix=".claims") as file:
         file.write(text)
         file.flush()
-        for words in (["--workers", "1"], ["--workers", "4", "--check"]):
+        for words in (["--workers", "1"], ["--workers", "4", "--check"], ["--json", "--check"]):
+            shown = lines if "--json" in words else report
             got = without_note(answer(program, ["run", "--claims", file.name, *words], given))
             status = 3 if "--check" in words and not holds else 0
-            if (got.status, got.out.decode(), got.err) != (status, wanted, b""):
-                found.append(f"{name} {' '.join(words)}: {got.status} {got.err!r}\n{text}{first_difference(got.out.decode(), wanted)}")
+            if (got.status, got.out.decode(), got.err) != (status, shown, b""):
+                where = first_difference(got.out.decode(), shown)
+                found.append(f"{name} {' '.join(words)}: {got.status} {got.err!r}\n{text}{where}")
     return found
 
 
@@ -252,9 +282,9 @@ def example(program, name):
     words = SCENARIOS.get(scenario) or ["clock", *re.findall(r"\w+", (re.findall(r"^state (.*)$", given.decode(), re.M) or [""])[0])]
     lines = [(at, line) for at, line in enumerate(text.splitlines(), 1) if line and not line.startswith("#")]
     properties = [(at, *read(line, words, sizes)) for at, line in lines]
-    wanted, holds = expected(report, pulses, words, properties)
-    found = tried(program, name, given, text, wanted, holds)
-    return found + ([f"{name}: --check isn't {status}"] if (0 if holds else 3) != status else [])
+    wanted = expected(report, pulses, words, properties)
+    found = tried(program, name, given, text, wanted)
+    return found + ([f"{name}: --check isn't {status}"] if (0 if wanted[-1] else 3) != status else [])
 
 
 def drawn(program, seed):
@@ -267,8 +297,48 @@ def drawn(program, seed):
         shown, value, back = term(draw, words, sizes, draw.randrange(5))
         properties.append((line, f"{head} {shown}", head, first, value, back))
         text += f"{head} {shown}\n"
-    wanted, holds = expected(report, pulses, words, properties)
-    return tried(program, f"{scenario} seed {seed}", given, text, wanted, holds)
+    wanted = expected(report, pulses, words, properties)
+    return tried(program, f"{scenario} seed {seed}", given, text, wanted)
+
+
+def cell_of(answered):
+    """The cell of an answer, as docs/PROPERTIES.md has it."""
+    found = re.match(r"holds from pulse (\d+)|violated in (\d+) of|(holds) in", answered)
+    return "" if not found else "0" if found[3] else found[1] or found[2]
+
+
+def row_of(program, given, file, key):
+    """The row of a key, by a run of the scenario with it."""
+    text, count = re.subn(rb"(?m)^key = \d+$", b"key = %d" % key, given)
+    if count != 1:
+        raise SystemExit("check_properties: a scenario to be swept has one line with its key")
+    answers = re.findall(r"^line \d+: .*\n  (.*)$", answer(program, ["run", "--claims", file], text).out.decode(), re.M)
+    return ",".join([str(key), *map(cell_of, answers)])
+
+
+def swept(program, seed):
+    draw = random.Random(f"{SEED} sweep {seed}")
+    scenario, words = list(SWEPT.items())[seed % len(SWEPT)]
+    given = (TOP / "examples" / scenario).read_bytes()
+    names, text = ["key"], "# drawn\n"
+    for line in range(2, LINES + 2):
+        head, _first = form(draw)
+        text += f"{head} {term(draw, words, {}, draw.randrange(4))[0]}\n"
+        names.append(f"{'since' if 'eventually' in head else 'violated'}_{line}")
+    first = draw.randrange(1000)
+    with tempfile.NamedTemporaryFile("w", suffix=".claims") as file:
+        file.write(text)
+        file.flush()
+        rows = [",".join(names), *(row_of(program, given, file.name, key) for key in range(first, first + KEYS))]
+        asked = ["sweep", "--keys", f"{first}..{first + KEYS - 1}", "--claims", file.name]
+        found = []
+        for workers in ("1", "3"):
+            got = without_note(answer(program, [*asked, "--workers", workers], given))
+            wanted = "".join(f"{row}\n" for row in rows)
+            if (got.status, got.out.decode(), got.err) != (0, wanted, b""):
+                said = first_difference(got.out.decode(), wanted)
+                found.append(f"sweep of {scenario} seed {seed}: {got.status} {got.err!r}\n{text}{said}")
+    return found
 
 
 def refused(program, case):
@@ -277,20 +347,22 @@ def refused(program, case):
     with tempfile.NamedTemporaryFile("w", suffix=".claims") as file:
         file.write(text)
         file.flush()
-        got = answer(program, ["run", "--claims", file.name], given)
-    line = got.out.decode()
-    if got.status == 2 and line.startswith(f"refused claims {wanted}") and b"note: line " in got.err:
-        return []
-    return [f"{text[:60]!r}: {got.status} {line!r} {got.err!r}, wanted {wanted}"]
+        for asked in (["run"], ["sweep", "--keys", "1..2"]):
+            got = answer(program, [*asked, "--claims", file.name], given)
+            line = got.out.decode()
+            if got.status != 2 or not line.startswith(f"refused claims {wanted}") or b"note: line " not in got.err:
+                return [f"{asked[0]} {text[:60]!r}: {got.status} {line!r} {got.err!r}, wanted {wanted}"]
+    return []
 
 
 def main():
     program = named_program()
     trials = [(example, name) for name in EXAMPLES]
     trials += [(drawn, seed) for seed in range(DRAWN)]
+    trials += [(swept, seed) for seed in range(SWEEPS)]
     trials += [(refused, case) for case in WRONG]
     found = on_all_processors(lambda trial: trial[0](program, trial[1]), trials)
-    counts = {"examples": len(EXAMPLES), "drawn files": DRAWN, "refusals": len(WRONG)}
+    counts = {"examples": len(EXAMPLES), "drawn files": DRAWN, "sweeps": SWEEPS, "refusals": len(WRONG)}
     return tell("check_properties", counts, found)
 
 

@@ -1,8 +1,8 @@
 #!/usr/bin/env python3
 """Holds each line of `run --json` against docs/lines.schema.json: tools/check_schema.py [PROGRAM]
 
-The lines are those of all examples and outside scenarios (check_json.py); the schema must refuse lines with a seeded
-fault. It needs Python's jsonschema, which is installed as Debian's python3-jsonschema where it is missing and that can
+The lines are those of all examples and outside scenarios (check_json.py), and those of `run --json --claims` of the
+examples of properties. The schema must refuse lines with a seeded fault. It needs Python's jsonschema, which is installed as Debian's python3-jsonschema where it is missing and that can
 be done; otherwise a line says that nothing was tried. PROGRAM is as for check_rows.py.
 """
 import copy
@@ -15,6 +15,7 @@ import sys
 sys.dont_write_bytecode = True
 from built_program import TOP, answer, named_program, on_all_processors, tell
 from check_json import scenarios
+from check_properties import EXAMPLES
 
 SCHEMA = TOP / "docs/lines.schema.json"
 DEBIAN_PYTHON = "/usr/bin/python3"
@@ -33,6 +34,14 @@ FAULTS = [
     lambda frame, pulse, last: pulse["sent"].append([4294967296]),
     lambda frame, pulse, last: last.update(in_step_since=0),
     lambda frame, pulse, last: last.pop("of"),
+]
+CLAIMS_FAULTS = [
+    lambda pulse, told: pulse.pop("pulse"),
+    lambda pulse, told: pulse["claims"].append("maybe"),
+    lambda pulse, told: told.pop("line"),
+    lambda pulse, told: told.update(answer="yes"),
+    lambda pulse, told: told.pop("nodes"),
+    lambda pulse, told: told.update(violated=0),
 ]
 
 
@@ -60,10 +69,17 @@ def line_differences(validator, name, lines):
             yield f"{name}: line {number}: {wrong.message[:200]}"
 
 
-def fault_differences(validator, name, lines):
-    """The seeded faults that the schema lets through."""
-    whole = [json.loads(it) for it in (lines[0], lines[1], lines[-1])]
-    for number, fault in enumerate(FAULTS):
+def claims_runs(program):
+    """The name and the answer of `run --json --claims` for each example of properties."""
+    for name, (scenario, _status) in EXAMPLES.items():
+        words = ["run", "--json", "--claims", str(TOP / "examples/properties" / f"{name}.claims")]
+        yield f"{name}.claims", answer(program, words, (TOP / "examples" / scenario).read_bytes())
+
+
+def fault_differences(validator, name, lines, faults):
+    """The seeded faults of these lines that the schema lets through."""
+    whole = [json.loads(it) for it in lines]
+    for number, fault in enumerate(faults):
         some = copy.deepcopy(whole)
         fault(*some)
         if all(validator.is_valid(it) for it in some):
@@ -80,9 +96,14 @@ def main():
     validator = jsonschema.Draft202012Validator(schema)
     runs = on_all_processors(lambda one: [(one[0], answer(program, ["run", "--json"], one[1]))], list(scenarios()))
     told = [(name, it.out.decode().splitlines()) for name, it in runs if it.status == 0]
-    found = [it for name, lines in told for it in line_differences(validator, name, lines)]
-    found += fault_differences(validator, *told[0]) if told else []
-    return tell("check_schema", {"lines": sum(len(lines) for _, lines in told), "seeded faults": len(FAULTS)}, found)
+    judged = {name: it.out.decode().splitlines() for name, it in claims_runs(program)}
+    found = [it for name, lines in [*told, *judged.items()] for it in line_differences(validator, name, lines)]
+    name, lines = told[0]
+    found += fault_differences(validator, name, [lines[0], lines[1], lines[-1]], FAULTS)
+    violated = judged["vote.claims"]
+    found += fault_differences(validator, "vote.claims", [violated[0], violated[-1]], CLAIMS_FAULTS)
+    counted = sum(len(lines) for lines in [*dict(told).values(), *judged.values()])
+    return tell("check_schema", {"lines": counted, "seeded faults": len(FAULTS) + len(CLAIMS_FAULTS)}, found)
 
 
 if __name__ == "__main__":

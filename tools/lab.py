@@ -39,7 +39,7 @@ OWN = "my_scenarios"
 GROUPS = {
     "start": "Start", "attacks": "Attacks and wrong programs", "clocks": "Clocks of several rules",
     "explore": "Explore", "counters": "Counters that a search found", "luck": "Stabilisation times",
-    "exercises": "Exercises",
+    "properties": "Protocols with properties", "exercises": "Exercises",
 }
 HIDDEN = "solutions"
 ADVERSARY = re.compile(rb'^program = "(?!clock")', re.MULTILINE)
@@ -220,10 +220,10 @@ class Folder:
         self.root = os.open(path, os.O_RDONLY | os.O_DIRECTORY)
 
     @staticmethod
-    def parts(name):
+    def parts(name, ending=".toml"):
         parts = name.split("/")
         is_plain = name.isprintable() and all(re.fullmatch(r"[^./\\][^/\\]{0,199}", part) for part in parts)
-        if not is_plain or not name.endswith(".toml") or len(parts) > MAX_DEPTH:
+        if not is_plain or not name.endswith(ending) or len(parts) > MAX_DEPTH:
             form = f"a path ends in .toml and has at most {MAX_DEPTH} parts, none of which begins with a dot"
             raise Refusal(HTTPStatus.FORBIDDEN, f"{name[:80]!r} names no scenario here: {form}")
         return parts
@@ -239,8 +239,8 @@ class Folder:
             here = below
         return here
 
-    def read(self, name):
-        *folders, last = self.parts(name)
+    def read(self, name, ending=".toml"):
+        *folders, last = self.parts(name, ending)
         here = self.opened(folders)
         try:
             file = os.open(last, os.O_RDONLY | os.O_NOFOLLOW | os.O_NONBLOCK, dir_fd=here)
@@ -253,6 +253,13 @@ class Folder:
         if len(text) > MAX_SCENARIO:
             raise Refusal(HTTPStatus.FORBIDDEN, f"{name} has more than 1 MiB, the limit of a scenario")
         return text
+
+    def claims_beside(self, name):
+        """The properties of the file NAME.claims beside the scenario NAME.toml, if they can be read."""
+        try:
+            return self.read(name.removesuffix(".toml") + ".claims", ".claims").decode()
+        except (OSError, Refusal, UnicodeDecodeError):
+            return ""
 
     def save(self, name, text, may_replace):
         *folders, last = self.parts(name)
@@ -398,7 +405,7 @@ class Lab:
             "begin": self.begin, "open": self.open, "save": self.save, "run": self.run, "pulses": self.pulses,
             "verify": self.verify, "compile": self.compile, "trace": self.trace, "program": self.program,
             "next": self.next, "transitions": self.transitions, "explore": self.explore, "sweep": self.sweep,
-            "claims": self.claims,
+            "claims": self.claims, "properties": self.properties,
         }
 
     def shown_examples(self):
@@ -421,7 +428,7 @@ class Lab:
             raise Refusal(HTTPStatus.NOT_FOUND, "there is no folder examples beside tools/lab.py")
         name = text(body, "name")
         try:
-            return {"text": folder.read(name).decode()}
+            return {"text": folder.read(name).decode(), "claims": folder.claims_beside(name)}
         except UnicodeDecodeError:
             raise Refusal(HTTPStatus.FORBIDDEN, f"{name} is no text in UTF-8") from None
 
@@ -543,6 +550,13 @@ class Lab:
             words = [ALL_SIZES, "--scenario", str(found), str(rule), str(claims)]
             told = self.jobs.run(words, b"", self.search_limit, is_gone).told()
             return {**told, "scenario": found.read_text(encoding="utf-8") if found.exists() else None}
+
+    def properties(self, body, is_gone):
+        """The verdicts on properties in each pulse of a run, and their answers, as lines of JSON."""
+        with tempfile.NamedTemporaryFile(suffix=".claims") as file:
+            file.write(text(body, "claims").encode(errors="replace"))
+            file.flush()
+            return self.asked(["run", "--json", "--claims", file.name], body, self.run_limit, is_gone).told()
 
     def sweep(self, body, is_gone):
         first = number(body, "first", 0, MAX_KEY)

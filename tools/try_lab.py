@@ -187,6 +187,7 @@ def try_rejections(trial, lab):
         status, told = lab.request(path, method="GET")
         trial.holds(f"{path} is open and has no token", status == 200 and lab.token not in told, (status, told))
         trial.equal(f"{path} by another Host", lab.request(path, method="GET", Host="evil.example")[0], 403)
+    trial.equal("properties that are no text", lab.ask("properties", text=FOUR, claims=1)[0], 400)
     trial.equal("no text to run", lab.ask("next", texts=[], pulse=1)[0], 400)
     trial.equal("too many texts", lab.ask("next", texts=[FOUR] * 257, pulse=1)[0], 400)
     trial.equal("a text that is none", lab.ask("next", texts=[1], pulse=1)[0], 400)
@@ -227,7 +228,8 @@ def try_folder(trial, lab, folder):
     trial.equal("the file outside", secret.read_text(), "secret = 1\n")
     trial.equal("a save", lab.ask("save", name="mine.toml", text=FOUR)[0], 200)
     trial.equal("a save over a file", lab.ask("save", name="mine.toml", text="x")[0], 409)
-    trial.equal("what was saved", lab.ask("open", place="folder", name="mine.toml"), (200, {"text": FOUR}))
+    opened = lab.ask("open", place="folder", name="mine.toml")
+    trial.equal("what was saved", opened, (200, {"text": FOUR, "claims": ""}))
     trial.equal("a save that replaces", lab.ask("save", name="mine.toml", text="x", replace=True)[0], 200)
     files = lab.ask("begin")[1]["files"]
     trial.holds(
@@ -989,6 +991,34 @@ def try_sizes(trial, page):
     page.click("#node-tab")
 
 
+# The verdict that each cell of the rows of properties shows: a no is red, a yes is green, and none has no colour.
+JUDGED = """[...document.querySelectorAll('#judged canvas')].map((it) => {
+  const { data } = it.getContext('2d').getImageData(0, 1, it.width, 1);
+  const word = (at) => (data[at + 3] === 0 ? 'none' : data[at] > data[at + 1] ? 'no' : 'yes');
+  return Array.from({ length: it.width }, (_, at) => word(4 * at));
+})"""
+
+
+def try_properties(trial, page):
+    """An example with properties has a row for each, and a wrong property is told."""
+    path = EXAMPLES / "properties/vote.toml"
+    claims = path.with_suffix(".claims")
+    page.choose("#examples", "properties/vote.toml")
+    trial.holds("the example's properties are judged", page.until("document.querySelector('#judged canvas')"))
+    trial.equal("they are in the field", page.value("document.getElementById('properties').value"), claims.read_text())
+    lines = list(map(json.loads, asked(["run", "--json", "--claims", str(claims)], path.read_text()).splitlines()))
+    pulses, found = [it["claims"] for it in lines if "claims" in it], [it for it in lines if "claim" in it]
+    trial.equal("a cell for each pulse", page.value(JUDGED), [list(it) for it in zip(*pulses)])
+    titles = page.value("[...document.querySelectorAll('#judged canvas')].map((it) => it.title.split('\\n')[0])")
+    trial.equal("the property is its row's title", titles, [f"line {it['line']}: {it['claim']}" for it in found])
+    page.put("#properties", "always p.tick == 0")
+    refused = page.until(shows("#properties-said", "refused claims UnknownName line 1"))
+    trial.holds("a wrong property is told", refused, page.text("#properties-said"))
+    page.choose("#examples", "four_clocks.toml")
+    trial.holds("another example has none", page.until("document.getElementById('properties').value === ''"))
+    trial.holds("and no row", page.until("!document.querySelector('#judged canvas')"))
+
+
 def shows(selector, words):
     return f"document.querySelector({json.dumps(selector)}).textContent.includes({json.dumps(words)})"
 
@@ -1525,9 +1555,10 @@ def try_page(trial, options):
     page = Page(room / "user", lab)
     parts = [
         (try_class, ()), (try_attack, ()), (try_typing, ()), (try_notes, ()), (try_limit, (folder,)), (try_hands, ()),
-        (try_rules, ()), (try_own_clock, ()), (try_next, ()), (try_sizes, ()), (try_time, ()), (try_editor, ()), (try_steps, ()),
-        (try_exploration, ()), (try_cancel, (lab,)), (try_program, ()), (try_sweep, ()), (try_hostile, ()),
-        (try_files, (folder,)), (try_keyboard, ()), (try_traces, ()), (try_speed, (options.judge_speed,)),
+        (try_rules, ()), (try_own_clock, ()), (try_next, ()), (try_sizes, ()), (try_properties, ()),
+        (try_time, ()), (try_editor, ()), (try_steps, ()), (try_exploration, ()), (try_cancel, (lab,)),
+        (try_program, ()), (try_sweep, ()), (try_hostile, ()), (try_files, (folder,)), (try_keyboard, ()),
+        (try_traces, ()), (try_speed, (options.judge_speed,)),
         *((compare_run, (name,)) for name in COMPARED), (try_examples, ()),
     ]
     try:

@@ -10,6 +10,8 @@ from clockbed.answers import (
     By,
     Bytes,
     Claim,
+    ClaimedRow,
+    ClaimedSweep,
     Claims,
     ClockKind,
     Explored,
@@ -38,8 +40,8 @@ from clockbed.scenario import Bench, Load, Scenario
 from clockbed.tables import Table, table
 
 __all__ = [
-    "Agreement", "Ask", "Bench", "By", "Bytes", "Claim", "Claims", "ClockKind", "ClockbedError", "Explored", "Fault",
-    "Frame", "Limit", "Load", "Mean", "NotFinished", "Odds", "ProgramKind", "ProgramMissing", "Pulse", "Ran", "Reach",
-    "Rejected", "Run", "Scenario", "Stabilisation", "Staged", "Start", "Step", "Summary", "Sweep", "SweepRow", "Table",
-    "Trace", "Verified", "plot", "table",
+    "Agreement", "Ask", "Bench", "By", "Bytes", "Claim", "ClaimedRow", "ClaimedSweep", "Claims", "ClockKind",
+    "ClockbedError", "Explored", "Fault", "Frame", "Limit", "Load", "Mean", "NotFinished", "Odds", "ProgramKind",
+    "ProgramMissing", "Pulse", "Ran", "Reach", "Rejected", "Run", "Scenario", "Stabilisation", "Staged", "Start",
+    "Step", "Summary", "Sweep", "SweepRow", "Table", "Trace", "Verified", "plot", "table",
 ]  # fmt: skip

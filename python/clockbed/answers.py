@@ -453,6 +453,39 @@ class Claims:
 
 
 @dataclass(frozen=True)
+class ClaimedRow:
+    """Is the line of a seed: a number for each property, or None if its cell is empty."""
+
+    key: int
+    cells: tuple[int | None, ...]
+
+
+@dataclass(frozen=True)
+class ClaimedSweep:
+    """Is a sweep with properties: a row for each seed (docs/PROPERTIES.md, "Sweeps").
+
+    >>> from clockbed import Bench
+    >>> sweep = Bench(4, 1, 8).noise().sweep_claims("always p.clock == q.clock", range(1, 5), pulses=30)
+    >>> sweep.columns, [it.cells for it in sweep.rows]
+    (('violated_1',), [(7,), (8,), (6,), (3,)])
+    """
+
+    columns: tuple[str, ...]
+    rows: tuple[ClaimedRow, ...]
+
+    @classmethod
+    def read(cls, text: str) -> ClaimedSweep:
+        """Reads what `clockbed sweep --claims` wrote."""
+        (_key, *columns), *lines = csv.reader(io.StringIO(text))
+        rows = [ClaimedRow(int(key), tuple(int(it) if it else None for it in cells)) for key, *cells in lines]
+        return cls(tuple(columns), tuple(rows))
+
+    def frame(self) -> Any:
+        """Returns a pandas data frame with a row for each seed."""
+        return frames.data_frame([{"key": it.key, **dict(zip(self.columns, it.cells))} for it in self.rows])
+
+
+@dataclass(frozen=True)
 class Step:
     """Is a step of a node's run. `rule_line` is the line of the rule that made the instruction, if there is one."""
 

@@ -13,7 +13,7 @@ from fractions import Fraction
 from typing import Union
 
 from clockbed import program
-from clockbed.answers import Claims, Explored, ProgramKind, Run, Sweep, Trace, Verified
+from clockbed.answers import ClaimedSweep, Claims, Explored, ProgramKind, Run, Sweep, Trace, Verified
 from clockbed.errors import NotFinished
 from clockbed.program import Progress
 
@@ -61,10 +61,13 @@ class Scenario:
 
     def sweep(self, keys: range, progress: Progress = None) -> Sweep:
         """Runs the scenario once for each of the seeds, on all processors."""
-        if keys.step != 1 or not keys:
-            raise ValueError(f"seeds are a range with at least one seed and a step of 1, as range(1, 101), not {keys}")
-        words = ["sweep", "--keys", f"{keys[0]}..{keys[-1]}"]
-        return Sweep.read(program.ask(words, self.text, progress).text)
+        return Sweep.read(program.ask(["sweep", "--keys", span_of(keys)], self.text, progress).text)
+
+    def sweep_claims(self, properties: str, keys: range, progress: Progress = None) -> ClaimedSweep:
+        """Does as `sweep`, and judges each run by properties, a line each (docs/PROPERTIES.md)."""
+        with text_file(properties, ".claims") as file:
+            words = ["sweep", "--keys", span_of(keys), "--claims", file]
+            return ClaimedSweep.read(program.ask(words, self.text, progress).text)
 
     def explore(self, progress: Progress = None, **options: Option) -> Explored:
         """Searches all runs. Options are those of `clockbed explore`, as `odds=64` for `--odds 64`.
@@ -103,6 +106,13 @@ def images_file(images: object) -> Iterator[str]:
         raise TypeError(f"images are memories in hexadecimal, not {images!r}")
     with text_file("".join(f"{it}\n" for it in images), ".txt") as file:
         yield file
+
+
+def span_of(keys: range) -> str:
+    """Returns the seeds as the word of `--keys`."""
+    if keys.step != 1 or not keys:
+        raise ValueError(f"seeds are a range with at least one seed and a step of 1, as range(1, 101), not {keys}")
+    return f"{keys[0]}..{keys[-1]}"
 
 
 @contextlib.contextmanager
@@ -238,6 +248,12 @@ class Bench:
     def sweep(self, keys: range, pulses: int = 1000, progress: Progress = None) -> Sweep:
         """Runs the bench once for each of the seeds, on all processors."""
         return self.scenario(pulses, key=0).sweep(keys, progress)
+
+    def sweep_claims(
+        self, properties: str, keys: range, pulses: int = 1000, progress: Progress = None
+    ) -> ClaimedSweep:
+        """Does as `sweep`, and judges each run by properties, a line each (docs/PROPERTIES.md)."""
+        return self.scenario(pulses, key=0).sweep_claims(properties, keys, progress)
 
     def explore(self, progress: Progress = None, **options: Option) -> Explored:
         """Searches all runs of the bench. Options are those of `Scenario.explore`.

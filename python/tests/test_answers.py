@@ -10,7 +10,9 @@ import unittest
 from fractions import Fraction
 
 import clockbed
-from clockbed import Bench, Explored, Frame, Mean, Odds, Pulse, Run, Scenario, Staged, Summary, Sweep, decode, program
+from clockbed import (
+    Bench, ClaimedSweep, Explored, Frame, Mean, Odds, Pulse, Run, Scenario, Staged, Summary, Sweep, decode, program,
+)  # fmt: skip
 
 TOP = pathlib.Path(__file__).resolve().parents[2]
 SCHEMA = json.loads((TOP / "docs/lines.schema.json").read_text(encoding="utf-8"))["$defs"]
@@ -24,6 +26,8 @@ WITHOUT_CLASS = {
     "pulseNumber": "an int",
     "verdict": "a bool or None",
     "row": "a tuple",
+    "claims": "Claims reads the text of `run --claims`",
+    "property": "Claims reads the text of `run --claims`",
 }
 DAMAGES = {
     Frame: [{"nodes": "4"}, {"clock": "clock"}, {"nodes": None}],
@@ -218,6 +222,19 @@ class SweepTest(unittest.TestCase):
     def test_a_median_past_the_last_pulse(self):
         lines = "key,agreed,of,first_disagreement,in_step_since,steps\n1,9,9,,,3\n2,9,9,,,3\n"
         self.assertIsNone(Sweep.read(lines).median)
+
+    def test_a_cell_with_properties_is_a_number_or_empty(self):
+        sweep = ClaimedSweep.read("key,violated_2,since_3\n1,0,4\n2,3,\n")
+        self.assertEqual(sweep.columns, ("violated_2", "since_3"))
+        self.assertEqual([(it.key, it.cells) for it in sweep.rows], [(1, (0, 4)), (2, (3, None))])
+
+    def test_with_properties_a_row_is_that_of_its_run(self):
+        bench, text = Bench(4, 1).noise(), "always p.clock == q.clock\neventually always p.clock == q.clock"
+        for row in bench.sweep_claims(text, range(3, 6), pulses=30).rows:
+            always, since = bench.claims(text, pulses=30, key=row.key).each
+            wrong = sum(it is False for it in always.verdicts)
+            self.assertEqual(row.cells[0], wrong)
+            self.assertEqual(since.answer.startswith(f"holds from pulse {row.cells[1]} on"), row.cells[1] is not None)
 
 
 if __name__ == "__main__":

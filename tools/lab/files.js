@@ -63,9 +63,10 @@ function showExamples(examples) {
   fill(get("examples"), "Examples ..", [...groups]);
 }
 
-/** Opens a text, which its menu goes on to name until it is changed. */
-function openFrom(place, file, text) {
+/** Opens a text with the properties of its run. Its menu goes on to name it until it is changed. */
+function openFrom(place, file, text, claims = "") {
   openedText = text;
+  tell("properties", claims);
   tell("open", text, place === "folder" ? file : "");
   get("files").value = place === "folder" ? file : "";
   get("examples").value = place === "folder" ? "" : file;
@@ -78,8 +79,8 @@ function openFrom(place, file, text) {
 async function open(place, file) {
   const mine = ++changes;
   try {
-    const { text } = await ask("open", { place, name: file });
-    if (mine === changes) openFrom(place, file, text);
+    const { text, claims } = await ask("open", { place, name: file });
+    if (mine === changes) openFrom(place, file, text, claims);
   } catch (why) {
     if (!(why instanceof NoAnswer)) throw why;
     say(`${file}: ${why.message}`, true);

@@ -13,6 +13,7 @@ import * as hands from "./hands.js";
 import * as next from "./next.js";
 import * as node from "./node.js";
 import * as program from "./program.js";
+import * as properties from "./properties.js";
 import * as sizes from "./sizes.js";
 import * as spacetime from "./spacetime.js";
 import * as steps from "./steps.js";
@@ -183,9 +184,8 @@ async function begin() {
   editor = new Editor(get("text"), "Scenario", changed);
   get("text").editor = editor;
   listen();
-  for (const part of [timeline, bench, node, hands, next, program, spacetime, explore, steps, sizes, sweep]) {
-    part.begin();
-  }
+  const parts = [timeline, bench, node, hands, next, program, properties, spacetime, explore, steps, sizes, sweep];
+  for (const part of parts) part.begin();
   showTab("node-tab");
   try {
     const answer = await ask("begin");

@@ -8,6 +8,7 @@ mod bench_space_example;
 mod bench_stress_example;
 mod bench_workers_example;
 mod claimed_runs_example;
+mod claimed_sweeps_example;
 mod command_answers_example;
 mod command_line_example;
 mod commands_example;

@@ -2,6 +2,7 @@
 use Rattle.std.proofs.Common.{◌≡◌, List, subst}
 use Rattle.bench_core.specs.Setup.{Setup}
 use Rattle.bench_workers.specs.Events.{Event}
+use Rattle.bench_workers.specs.Runs.{IsEventFault}
 use Rattle.bench_workers.specs.Watching.{EndsAt, Seen}
 use Rattle.bench_workers.specs.declared.event.RunFault.{RunFault}
 use Rattle.bench_workers.specs.declared.watcher.WatchFault.{WatchFault}
@@ -18,3 +19,9 @@ pub ends_met : {K S : Type 0} (T E : K → S → Seen → K → S → Type 0) (s
 ends_met T E s bench es k o k' o' why fault is same listed ends =
     subst (λ e. EndsAt T E (bench_of s) e k o k' o' (Run fault)) listed
     (subst (λ b. EndsAt T E b es k o k' o' (Run fault)) same (subst (EndsAt T E bench es k o k' o') is ends))
+
+-- the refusal of the event at which it stopped
+pub fault_at : {K S : Type 0} (T E : K → S → Seen → K → S → Type 0) (bench : Setup) (es : List Event) (k : K) (o : S)
+    (k' : K) (o' : S) (why : WatchFault) (fault : RunFault) → why ≡ Run fault → EndsAt T E bench es k o k' o' why
+    → IsEventFault bench es fault.event fault.fault
+fault_at T E bench es k o k' o' why fault is ends = let told = subst (EndsAt T E bench es k o k' o') is ends in told.0

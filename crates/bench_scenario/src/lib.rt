@@ -34,7 +34,7 @@ mod watched;
 
 pub use in_step::in_step_since;
 pub use inputs::{InputFault, NodeInput, node_input};
-pub use keyed::run_with_key;
+pub use keyed::{run_watched_with_key, run_with_key};
 pub use printing::{RunReport, clock_name, report};
 pub use reading::{TextFault, read_scenario};
 pub use run::{MAX_BYTES, MAX_CALLS, ReportFault, ScenarioFault, run_scenario, write_report};

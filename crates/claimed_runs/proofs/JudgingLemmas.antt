@@ -1,5 +1,5 @@
 -- Pulses, one after the other.
-use Rattle.std.proofs.Common.{◌≡◌, ℕ, List, [], ◌∷◌, ◌++◌, map, ap, sym, subst, ◌∙◌, append_assoc, append-nil}
+use Rattle.std.proofs.Common.{◌≡◌, ℕ, List, [], ◌∷◌, ◌++◌, map, ap, sym, ◌∙◌, append_assoc, append-nil}
 use Rattle.std.specs.Prelude.{is_some}
 use Rattle.bench_core.specs.Told.{PulseTold}
 use Rattle.bench_workers.specs.Runs.{IsRun}
@@ -8,15 +8,16 @@ use Rattle.rule_syntax.specs.declared.syntax.Sizes.{Sizes}
 use Rattle.scenario_text.specs.declared.scenario.Scenario.{Scenario}
 use Rattle.scenario_text.specs.Views.{frame_of}
 use Rattle.bench_scenario.specs.Events.{events_of}
-use Rattle.bench_scenario.specs.Reports.{all_agree, report_of}
+use Rattle.bench_scenario.specs.Reports.{all_agree}
 use Rattle.bench_scenario.specs.Runs.{bench_of}
 use Rattle.properties.specs.declared.property.Property.{Property}
 use Rattle.properties.specs.Claims.{ClaimedPulse, claimed_in}
-use Rattle.properties.specs.Texts.{all_hold, claims_text}
+use Rattle.properties.specs.Texts.{all_hold}
+use Rattle.claimed_runs.specs.declared.judged.ClaimsForm.{ClaimsForm}
 use Rattle.claimed_runs.specs.declared.report.ClaimsReport.{ClaimsReport}
 use Rattle.claimed_runs.specs.declared.watcher.ClaimsWatcher.{ClaimsWatcher}
 use Rattle.claimed_runs.specs.Claims.{claimed_after, claimed_pulse, memories_after, scenario_sizes}
-use Rattle.claimed_runs.specs.Runs.{ReportsClaims, claimed_of}
+use Rattle.claimed_runs.specs.Runs.{IsJudgedRun, ReportsClaims, claimed_of, judged_run_text}
 use Rattle.claimed_runs.specs.Views.{memory_lists}
 use Rattle.claimed_runs.specs.inner.Judging.{JudgesPulse}
 
@@ -54,33 +55,40 @@ judged_all k k' o o' ps z (x ∷ xs) same sized watches =
     ∙ judged_more (claimed_in k.pulses.items) (claimed_in k1.pulses.items) ps z (memory_lists k.before.items)
     (memory_lists k1.before.items) x xs one tells.before
 
--- the text of the run of a scenario
-pub reports : {S : Type 0} (s : Scenario) (ps : List Property) (k k' : ClaimsWatcher) (o o' : S) (rs : List PulseTold)
-    (memories : List (List ℕ)) (text : List ℕ) (says : ClaimsReport) → k.properties.now ≡ ps
-    → k.sizes ≡ scenario_sizes (frame_of s) → k.before.items ≡ [] → k.pulses.items ≡ []
-    → IsRun (bench_of s) (events_of s) rs memories
+-- the run of a scenario, and all that its watcher judged
+pub judged : {S : Type 0} (s : Scenario) (ps : List Property) (k k' : ClaimsWatcher) (o o' : S) (rs : List PulseTold)
+    (memories : List (List ℕ)) → k.properties.now ≡ ps → k.sizes ≡ scenario_sizes (frame_of s)
+    → k.before.items ≡ [] → k.pulses.items ≡ [] → IsRun (bench_of s) (events_of s) rs memories
     → (xs : List Seen) × (rs ≡ map (λ x. x.told) xs) × Watched Tells (bench_of s) (events_of s) k o xs k' o'
-    → text ≡ report_of (frame_of s) (is_some s.clock) rs ++ claims_text ps (claimed_in k'.pulses.items)
-    → says.agrees ≡ all_agree (frame_of s) (is_some s.clock) rs
-    → says.holds ≡ all_hold ps (claimed_in k'.pulses.items) → ReportsClaims s ps text says
-reports s ps k k' o o' rs memories text says same sized fresh none run watched whole agrees holds =
+    → IsJudgedRun s ps rs (claimed_in k'.pulses.items)
+judged s ps k k' o o' rs memories same sized fresh none run watched =
     let xs = watched.0 in
-    let e = watched.1 in
     let shown = watched.2 in
-    let f = frame_of s in
-    let own = is_some s.clock in
+    let z = scenario_sizes (frame_of s) in
     let all : claimed_in k'.pulses.items ≡ claimed_of s ps xs =
-    judged_all k k' o o' ps (scenario_sizes f) xs same sized shown.watches
-    ∙ (ap (λ t. claimed_in t ++ claimed_after ps (scenario_sizes f) (memory_lists k.before.items) xs) none
-    ∙ ap (λ t. claimed_after ps (scenario_sizes f) (memory_lists t) xs) fresh) in
+    judged_all k k' o o' ps z xs same sized shown.watches
+    ∙ (ap (λ t. claimed_in t ++ claimed_after ps z (memory_lists k.before.items) xs) none
+    ∙ ap (λ t. claimed_after ps z (memory_lists t) xs) fresh) in
     record {
       seen = xs;
       last = shown.last;
       memories = memories;
       shown = shown.shows;
-      run = subst (λ ts. IsRun (bench_of s) (events_of s) ts memories) e run;
-      whole = whole ∙ (ap (λ ts. report_of f own ts ++ claims_text ps (claimed_in k'.pulses.items)) e
-          ∙ ap (λ cs. report_of f own (map (λ x. x.told) xs) ++ claims_text ps cs) all);
-      agrees = agrees ∙ ap (all_agree f own) e;
-      holds = holds ∙ ap (all_hold ps) all;
+      told = watched.1;
+      run = run;
+      judged = all;
     }
+
+-- the text of a run that was judged
+pub reports : (form : ClaimsForm) (s : Scenario) (ps : List Property) (rs : List PulseTold)
+    (pulses : List ClaimedPulse) (text : List ℕ) (says : ClaimsReport) → IsJudgedRun s ps rs pulses
+    → text ≡ judged_run_text form s ps rs pulses → says.agrees ≡ all_agree (frame_of s) (is_some s.clock) rs
+    → says.holds ≡ all_hold ps pulses → ReportsClaims form s ps text says
+reports form s ps rs pulses text says run whole agrees holds = record {
+  records = rs;
+  pulses = pulses;
+  run = run;
+  whole = whole;
+  agrees = agrees;
+  holds = holds;
+}

@@ -1,11 +1,14 @@
 //! Runs scenarios and judges properties of each closed pulse (docs/PROPERTIES.md).
 //!
-//! - `write_claims` runs a scenario and writes its report, then the verdicts and the answers of the properties.
+//! - `write_claims` runs a scenario and writes its report, then the verdicts and the answers of the properties; or these
+//!   as lines of JSON.
+//! - `judged_run` runs a scenario, and returns the verdicts on the properties in each closed pulse.
+//! - `judged_run_with_key` does so with another key of the coins.
 //! - `pulse_claims` returns the verdicts on the properties in a pulse that was shown.
 //!
 //! ```
 //! use bench_workers::TrackedThreads;
-//! use claimed_runs::{ClaimedRun, write_claims};
+//! use claimed_runs::{ClaimedRun, ClaimsForm, write_claims};
 //! use scenario_text::scenario_in;
 //! use stream_io::Tracked;
 //!
@@ -15,6 +18,7 @@
 //! let asked = ClaimedRun {
 //!     scenario: &scenario,
 //!     properties: &[],
+//!     form: ClaimsForm::Text,
 //!     workers: 1,
 //! };
 //! let mut threads = TrackedThreads::of(&rt);
@@ -25,11 +29,15 @@
 //! ```
 #![tactic(auto)]
 
+mod judged;
+mod keyed;
 mod nodes;
 mod pulses;
 mod report;
 mod watcher;
 
+pub use judged::{ClaimedRun, ClaimsForm, JudgedRun, judged_run};
+pub use keyed::judged_run_with_key;
 pub use nodes::sizes_of;
 pub use pulses::pulse_claims;
-pub use report::{ClaimedRun, ClaimsReport, write_claims};
+pub use report::{ClaimsReport, write_claims};

@@ -6,29 +6,19 @@ ghost use Rattle.scenario_text.specs.Views.{frame_of};
 ghost use Rattle.bench_scenario.specs.Reports.{all_agree, report_of};
 ghost use Rattle.bench_scenario.specs.Runs.{HasRunCause, ReportHasThreads};
 ghost use Rattle.bench_scenario.specs.inner.Runs.{IsDueOfRun};
-ghost use Rattle.claimed_runs.specs.Claims.{claimed_pulses, scenario_sizes};
-ghost use Rattle.claimed_runs.specs.Runs.{LeavesClaims, ReportsClaims};
+ghost use Rattle.claimed_runs.specs.Runs.{LeavesClaims, ReportsClaims, judged_run_text};
 ghost use Rattle.properties.specs.Claims.{claimed_in};
 ghost use Rattle.properties.specs.Texts.{all_hold, claims_text};
 
-use crate::nodes::sizes_of;
-use crate::watcher::ClaimsWatcher;
-use bench_scenario::{ReportFault, WatchedFault, report, run_watched};
+use crate::judged::{ClaimedRun, ClaimsForm, JudgedRun, judged_run};
+use bench_scenario::{ReportFault, report};
 use bench_workers::{MAX_WORKERS, Run, TrackedThreads};
-use properties::{Property, PulseClaims, add_claims};
-use scenario_text::Scenario;
+use claims_json::claims_lines;
+use properties::{PulseClaims, add_claims};
 use std::alloc::{AllocError, Global};
 use std::sync::Wait;
 use std::thread::Threads;
 use stream_io::{Sink, WriteFault, write_fully};
-
-/// A scenario that was read, the properties that its run is judged by, and on how many workers at most it is run.
-#[derive(Clone, Copy)]
-pub struct ClaimedRun<'a> {
-    pub scenario: &'a Scenario,
-    pub properties: &'a [Property],
-    pub workers: u32,
-}
 
 /// Whether no pulse's verdict on agreement is no, and whether no property is violated.
 #[derive(Clone, Copy, Debug, PartialEq, Eq)]
@@ -37,7 +27,7 @@ pub struct ClaimsReport {
     pub holds: bool,
 }
 
-/// The text of a report with verdicts and answers, and what it says.
+/// The text of verdicts and answers, with or without a report, and what the run says.
 #[derive(Drop)]
 struct ReportText {
     text: String,
@@ -69,7 +59,31 @@ fn report_text(
     })
 }
 
-/// Runs a scenario, and returns its report, then the verdicts and the answers.
+/// Returns the text of a run that was judged, in the form that is asked for.
+fn judged_run_text(
+    alloc: Global,
+    asked: &ClaimedRun<'_>,
+    run: &Run,
+    pulses: &[PulseClaims],
+) -> Result<ReportText, AllocError>
+    ensures text { IfOk result (λ told. string_bytes told.text ≡ judged_run_text asked.now.form asked.now.scenario.now
+        asked.now.properties.now run.now.records.items (claimed_in pulses.now)) }
+    ensures agrees { IfOk result (λ told. told.says.agrees
+        ≡ all_agree (frame_of asked.now.scenario.now) (is_some asked.now.scenario.now.clock) run.now.records.items) }
+    ensures holds { IfOk result (λ told. told.says.holds
+        ≡ all_hold asked.now.properties.now (claimed_in pulses.now)) }
+{
+    let told = report_text(alloc, asked, run, pulses)?;
+    match asked.form {
+        ClaimsForm::Text => Ok(told),
+        ClaimsForm::Json => Ok(ReportText {
+            text: claims_lines(alloc, asked.properties, pulses)?,
+            says: told.says,
+        }),
+    }
+}
+
+/// Runs a scenario, and returns the text of its verdicts and answers.
 fn claims_report<T: Threads + Wait + Sync>(
     threads: &mut TrackedThreads<'_, T>,
     alloc: Global,
@@ -79,33 +93,20 @@ fn claims_report<T: Threads + Wait + Sync>(
     requires few { asked.now.workers ≤ MAX_WORKERS }
     requires reads { (text : List ℕ) × ReadsText text asked.now.scenario.now }
     ensures told { MatchResult result
-        (λ told. ReportsClaims asked.now.scenario.now asked.now.properties.now (string_bytes told.text) told.says)
+        (λ told. ReportsClaims asked.now.form asked.now.scenario.now asked.now.properties.now (string_bytes told.text)
+        told.says)
         (IsDueOfRun asked.now.scenario.now) }
     ensures thread { has_failed threads.new.starts ≡ false → IfErr result ReportHasThreads }
 {
-    let sizes = sizes_of(asked.scenario);
-    let mut watcher = ClaimsWatcher::new(alloc, asked.properties, sizes);
-    let workers = asked.workers;
-    let run = match run_watched(
-        threads,
-        alloc,
-        asked.scenario,
-        workers,
-        &mut watcher,
-        &mut (),
-    ) {
-        Ok(run) => run,
-        Err(WatchedFault::Run(fault)) => return Err(ReportFault::Run(fault)),
-        Err(WatchedFault::Memory | WatchedFault::Stopped(_)) => return Err(ReportFault::Memory),
-    };
-    match report_text(alloc, asked, &run, watcher.pulses.as_slice()) {
+    let JudgedRun { run, pulses } = judged_run(threads, alloc, asked)?;
+    match judged_run_text(alloc, asked, &run, pulses.as_slice()) {
         Ok(told) => Ok(told),
         Err(_) => Err(ReportFault::Memory),
     }
 }
 
-/// Runs a scenario, and writes its report, then the verdicts and the answers of properties. The text is whole before its
-/// first byte is written. `threads` tells whether a start of a thread failed.
+/// Runs a scenario, and writes its report, then the verdicts and the answers of properties; or these as lines of JSON. The
+/// text is whole before its first byte is written. `threads` tells whether a start of a thread failed.
 pub fn write_claims<T: Threads + Wait + Sync, W: Sink>(
     threads: &mut TrackedThreads<'_, T>,
     alloc: Global,
@@ -115,7 +116,7 @@ pub fn write_claims<T: Threads + Wait + Sync, W: Sink>(
     requires some { 1 ≤ asked.now.workers }
     requires few { asked.now.workers ≤ MAX_WORKERS }
     requires reads { (text : List ℕ) × ReadsText text asked.now.scenario.now }
-    ensures left { LeavesClaims (W.contents writer.old) (W.contents writer.new) asked.now.scenario.now
+    ensures left { LeavesClaims (W.contents writer.old) (W.contents writer.new) asked.now.form asked.now.scenario.now
         asked.now.properties.now result }
     ensures cause { IfErr result (HasRunCause (W.has_failed writer.new)) }
     ensures thread { has_failed threads.new.starts ≡ false → IfErr result ReportHasThreads }

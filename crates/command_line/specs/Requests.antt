@@ -5,14 +5,17 @@ use Rattle.std.specs.Prelude.{◌≡◌, ◌≢◌, ◌⊎◌, ◌↔◌, ℕ, t
 use Rattle.std.specs.Prelude.{IsTrue, MatchOption, codes, option_map, string_bytes}
 use Rattle.clap.specs.Matches.{first_value}
 use Rattle.clap.specs.declared.parser.matches.Found.{Found}
-use Rattle.command_line.specs.Explore.{AsksExplore}
+use Rattle.command_line.specs.Explore.{AsksAnswer, AsksExplore, AsksMail, AsksReach, AsksStart}
 use Rattle.command_line.specs.Lists.{AreContents, AreMailSlots}
 use Rattle.command_line.specs.Numbers.{HasFlag, OptionHasNumber, IsNumeralOf, IsNumberOf, IsNumberOr}
 use Rattle.command_line.specs.declared.request.Invocation.{Invocation}
-use Rattle.command_words.specs.declared.options.TheConstants.{COIN, FAULTS, FROM, FUEL, ID, LOADERS, LOADS, MEMORY, MODULUS}
-use Rattle.command_words.specs.declared.options.TheConstants.{NODES, PULSES, STRESS_WORKERS, SWEEPERS, UNTIL, WORKERS}
+use Rattle.command_words.specs.declared.options.TheConstants.{COIN, DEPTH, FAULTS, FROM, FUEL, ID, LOADERS, LOADS, MEBIBYTES, MEMORY, MODULUS}
+use Rattle.command_words.specs.declared.options.TheConstants.{NODES, PULSES, STATES, STRESS_WORKERS, SWEEPERS, UNTIL, WORKERS}
 use Rattle.requests.specs.declared.case.Case.{Case}
+use Rattle.explored.specs.declared.question.Question.TheVariants.{Stabilisation}
+use Rattle.requests.specs.declared.request.ClaimedExploreOptions.{ClaimedExploreOptions}
 use Rattle.requests.specs.declared.request.ClaimedRunOptions.{ClaimedRunOptions}
+use Rattle.requests.specs.declared.request.ClaimedSweepOptions.{ClaimedSweepOptions}
 use Rattle.requests.specs.declared.request.ClockOptions.{ClockOptions}
 use Rattle.requests.specs.declared.request.CompileOptions.{CompileOptions}
 use Rattle.requests.specs.declared.request.CompiledForm.{CompiledForm}
@@ -134,14 +137,32 @@ pub record AsksLines (f : Found) (asked : LinesOptions) : Type 0 where
   pub format : AsksFormat f asked.form.format
   pub span : AsksSpan f asked.form.span
 
--- the text of the properties by which the run is judged
+-- the text of the properties by which the run is judged, and whether lines of JSON are asked for
 pub record AsksClaimedRun (f : Found) (asked : ClaimedRunOptions) : Type 0 where
   pub run : AsksRun f asked.run
+  pub json : HasFlag f (codes "json") asked.json
   pub claims : first_value f (codes "claims") ≡ Some (string_bytes asked.claims)
 
 abbrev pub AsksSweep : Found → SweepOptions → Type 0
 AsksSweep f asked = ((text : List ℕ) × (first_value f (codes "keys") ≡ Some text) × IsKeys text asked.keys)
     × OptionHasNumber 32 f SWEEPERS.name.now asked.workers
+
+-- the text of the properties whose violations are counted
+pub record AsksClaimedSweep (f : Found) (asked : ClaimedSweepOptions) : Type 0 where
+  pub sweep : AsksSweep f asked.sweep
+  pub claims : first_value f (codes "claims") ≡ Some (string_bytes asked.claims)
+
+-- the text of the properties that are explored: the question is how each stabilises
+pub record AsksClaimedExplore (f : Found) (asked : ClaimedExploreOptions) : Type 0 where
+  pub question : asked.explore.question ≡ Stabilisation
+  pub mail : AsksMail f asked.explore.mail
+  pub start : AsksStart f asked.explore.start
+  pub states : IsNumberOf STATES f asked.explore.states
+  pub depth : IsNumberOf DEPTH f asked.explore.depth
+  pub memory : IsNumberOf MEBIBYTES f asked.explore.memory
+  pub answer : AsksAnswer f asked.explore.odds asked.explore.form
+  pub reach : AsksReach f asked.explore.reach
+  pub claims : first_value f (codes "claims") ≡ Some (string_bytes asked.claims)
 
 pub record AsksStress (f : Found) (asked : StressOptions) : Type 0 where
   pub loaders : IsNumberOf LOADERS f asked.loaders
@@ -174,8 +195,10 @@ AsksOfScenario name f (scenarios.ClaimedRun asked) =
 AsksOfScenario name f (scenarios.TracedRun place) = (name ≡ codes "run") × OptionHasPlace f (codes "trace") place
 AsksOfScenario name f (scenarios.NodeProgram asked) =
     (name ≡ codes "dis") × OptionHasPlace f (codes "node") asked.place × HasFlag f (codes "list") asked.list
-AsksOfScenario name f (scenarios.Sweep asked) = (name ≡ codes "sweep") × AsksSweep f asked
-AsksOfScenario name f (scenarios.Explore asked) = (name ≡ codes "explore") × AsksExplore f asked
+AsksOfScenario name f (scenarios.Sweep asked) = (name ≡ codes "sweep") × IsUnclaimed f × AsksSweep f asked
+AsksOfScenario name f (scenarios.ClaimedSweep asked) = (name ≡ codes "sweep") × AsksClaimedSweep f asked
+AsksOfScenario name f (scenarios.Explore asked) = (name ≡ codes "explore") × IsUnclaimed f × AsksExplore f asked
+AsksOfScenario name f (scenarios.ClaimedExplore asked) = (name ≡ codes "explore") × AsksClaimedExplore f asked
 
 -- what the command of this name is asked for by its options; help isn't asked for in this way
 abbrev pub Asks : List ℕ → Found → Request → Type 0

@@ -15,16 +15,17 @@ use crate::options::{flag, number, number_if_named};
 use clap::error::ErrorKind;
 use clap::{ArgMatches, Error};
 use command_words::options::{
-    ALL, CHECK, CLAIMS_FILE, CLOCK, EXPLAIN, FAULTS, FROM, JSON, KEYS, LISTING, LOADERS, LOADS,
-    MEMORY, MODULUS, NODE, NODES, ODDS, PROPERTIES_FILE, PULSES, RULE_FILE, RULE_IN_C,
-    RULE_LISTING, STRESS_WORKERS, SWEEPERS, TEXT, TRACE, UNTIL, WORKERS,
+    ALL, CHECK, CLAIMS_FILE, CLOCK, EXPLAIN, EXPLORED_PROPERTIES, FAULTS, FROM, JSON, KEYS,
+    LISTING, LOADERS, LOADS, MEMORY, MODULUS, NODE, NODES, ODDS, PROPERTIES_FILE, PULSES,
+    RULE_FILE, RULE_IN_C, RULE_LISTING, STRESS_WORKERS, SWEEPERS, SWEPT_PROPERTIES, TEXT, TRACE,
+    UNTIL, WORKERS,
 };
 use command_words::{Helps, command_line};
 use requests::{
-    ClaimedRunOptions, ClockOptions, ClockRule, CompileOptions, CompiledForm, Detail,
-    ExplainOptions, KeySpan, LineFormat, LinesForm, LinesOptions, NodeInPulse, NodeProgramOptions,
-    ProveOptions, PulseSpan, Request, RunOptions, ScenarioRequest, ShapeOptions, StressOptions,
-    SweepOptions,
+    ClaimedExploreOptions, ClaimedRunOptions, ClaimedSweepOptions, ClockOptions, ClockRule,
+    CompileOptions, CompiledForm, Detail, ExplainOptions, ExploreOptions, KeySpan, LineFormat,
+    LinesForm, LinesOptions, NodeInPulse, NodeProgramOptions, ProveOptions, PulseSpan, Question,
+    Request, RunOptions, ScenarioRequest, ShapeOptions, StressOptions, SweepOptions,
 };
 use std::alloc::{AllocError, Global};
 use std::convert::AsStr;
@@ -152,15 +153,8 @@ fn request_in(alloc: Global, name: &str, options: &ArgMatches<'_>) -> Result<Req
         "run" => run_request(alloc, options),
         "stress" => Ok(Request::Stress(stress_options(options))),
         "prove" => Ok(Request::Prove(prove_options(alloc, options)?)),
-        "explore" => Ok(Request::Scenario(ScenarioRequest::Explore(explore_options(
-            alloc, options,
-        )?))),
-        "sweep" => match sweep_options(options) {
-            Some(options) => Ok(Request::Scenario(ScenarioRequest::Sweep(options))),
-            None => Err(OptionsFault::Reason(
-                "the keys are FIRST..LAST, the first at most the last",
-            )),
-        },
+        "explore" => explore_request(alloc, options),
+        "sweep" => sweep_request(alloc, options),
         _ => Err(OptionsFault::Reason("a command is needed")),
     }
 }
@@ -331,6 +325,7 @@ fn run_request(alloc: Global, options: &ArgMatches<'_>) -> Result<Request, Optio
         let claims = String::from_str(alloc, claims)?;
         return Ok(Request::Scenario(ScenarioRequest::ClaimedRun(ClaimedRunOptions {
             run,
+            json: flag(options, &JSON),
             claims,
         })));
     }
@@ -373,6 +368,39 @@ fn stress_options(options: &ArgMatches<'_>) -> StressOptions
         pulses: number(options, &PULSES),
         workers: number(options, &STRESS_WORKERS),
     }
+}
+
+/// Returns an exploration, by properties where some are given.
+fn explore_request(alloc: Global, options: &ArgMatches<'_>) -> Result<Request, OptionsFault>
+    ensures { IfOk result (Asks (codes "explore") (found_of options.now)) }
+{
+    let explore = explore_options(alloc, options)?;
+    let Some(claims) = options.get_str(EXPLORED_PROPERTIES.name) else {
+        return Ok(Request::Scenario(ScenarioRequest::Explore(explore)));
+    };
+    let claims = String::from_str(alloc, claims)?;
+    let explore = ExploreOptions {
+        question: Question::Stabilisation,
+        ..explore
+    };
+    Ok(Request::Scenario(ScenarioRequest::ClaimedExplore(ClaimedExploreOptions {
+        explore,
+        claims,
+    })))
+}
+
+/// Returns a sweep, by properties where some are given.
+fn sweep_request(alloc: Global, options: &ArgMatches<'_>) -> Result<Request, OptionsFault>
+    ensures { IfOk result (Asks (codes "sweep") (found_of options.now)) }
+{
+    let Some(sweep) = sweep_options(options) else {
+        return Err(OptionsFault::Reason("the keys are FIRST..LAST, the first at most the last"));
+    };
+    let Some(claims) = options.get_str(SWEPT_PROPERTIES.name) else {
+        return Ok(Request::Scenario(ScenarioRequest::Sweep(sweep)));
+    };
+    let claims = String::from_str(alloc, claims)?;
+    Ok(Request::Scenario(ScenarioRequest::ClaimedSweep(ClaimedSweepOptions { sweep, claims })))
 }
 
 /// Returns the options of `sweep`, where the keys are two numbers in order.

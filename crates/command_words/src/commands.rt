@@ -1,11 +1,11 @@
 //! The commands, each with its options in the order of its help.
 
 use crate::options::{
-    ALL, ASK, BYTES, CELLS, CHECK, CLAIMS_FILE, CLOCK, COIN, CONTENTS, DEPTH, EXPLAIN, FAULTS,
-    FROM, FUEL, GRAPH, ID, IMAGES, INBOX, JSON, JSON_ANSWER, KEYS, LISTING, LOADERS, LOADS, MAIL,
-    MEBIBYTES, MEMORY, MODULUS, NODE, NODES, ODDS, PROPERTIES_FILE, PULSES, REACH, RULE_FILE,
-    RULE_IN_C, RULE_LISTING, SAID, SHOW, START, STATES, STEPS, STRESS_WORKERS, SWEEPERS, TEXT,
-    TRACE, UNTIL, WORKERS,
+    ALL, ASK, BYTES, CELLS, CHECK, CLAIMS_FILE, CLOCK, COIN, CONTENTS, DEPTH, EXPLAIN,
+    EXPLORED_PROPERTIES, FAULTS, FROM, FUEL, GRAPH, ID, IMAGES, INBOX, JSON, JSON_ANSWER, KEYS,
+    LISTING, LOADERS, LOADS, MAIL, MEBIBYTES, MEMORY, MODULUS, NODE, NODES, ODDS, PROPERTIES_FILE,
+    PULSES, REACH, RULE_FILE, RULE_IN_C, RULE_LISTING, SAID, SHOW, START, STATES, STEPS,
+    STRESS_WORKERS, SWEEPERS, SWEPT_PROPERTIES, TEXT, TRACE, UNTIL, WORKERS,
 };
 use crate::rows::OptionRow::{Flag, Long, LongSpan, Number, Span, Text};
 use crate::rows::{CommandRow, NumberOption, OptionRow};
@@ -157,9 +157,9 @@ const STRESS: [OptionRow; 4] = [
     Number(STRESS_WORKERS),
 ];
 
-const SWEEP: [OptionRow; 2] = [LongSpan(KEYS), Number(SWEEPERS)];
+const SWEEP: [OptionRow; 3] = [LongSpan(KEYS), Number(SWEEPERS), Text(SWEPT_PROPERTIES)];
 
-const EXPLORE: [OptionRow; 14] = [
+const EXPLORE: [OptionRow; 15] = [
     Text(ASK),
     Text(MAIL),
     Text(START),
@@ -174,6 +174,7 @@ const EXPLORE: [OptionRow; 14] = [
     Text(REACH),
     Text(GRAPH),
     Flag(JSON_ANSWER),
+    Text(EXPLORED_PROPERTIES),
 ];
 
 const PROVE: [OptionRow; 2] = [Text(RULE_FILE), Text(CLAIMS_FILE)];

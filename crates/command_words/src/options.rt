@@ -257,7 +257,20 @@ pub const UNTIL: NumberOption<&str, u32> = NumberOption {
 /// `--claims` of `run`
 pub const PROPERTIES_FILE: TextOption = TextOption {
     help: "File of properties: print for each pulse and for the run whether they hold",
-    excludes: &["json", "trace", "from", "until"],
+    excludes: &["trace", "from", "until"],
+    ..CLAIMS_FILE
+};
+
+/// `--claims` of `sweep`
+pub const SWEPT_PROPERTIES: TextOption = TextOption {
+    help: "File of properties: count for each seed the pulses that violate them",
+    ..CLAIMS_FILE
+};
+
+/// `--claims` of `explore`
+pub const EXPLORED_PROPERTIES: TextOption = TextOption {
+    help: "File of properties: prove each for all runs, or print a counterexample",
+    excludes: &["ask", "odds", "reach", "graph"],
     ..CLAIMS_FILE
 };
 

@@ -20,7 +20,7 @@ use Rattle.requests.specs.declared.request.ExecOptions.{ExecOptions}
 use Rattle.requests.specs.declared.request.Request.{Request}
 use Rattle.requests.specs.declared.request.Request.TheVariants.{Exec, Asm, Compile, Dis, Clock, Verify, Explain, Scenario, Prove, Stress, Help}
 use Rattle.requests.specs.declared.request.ScenarioRequest.{ScenarioRequest}
-use Rattle.requests.specs.declared.request.ScenarioRequest.TheVariants.{Run, Lines, ClaimedRun, TracedRun, NodeProgram, Sweep, Explore}
+use Rattle.requests.specs.declared.request.ScenarioRequest.TheVariants.{Run, Lines, ClaimedRun, TracedRun, NodeProgram, Sweep, ClaimedSweep, Explore, ClaimedExplore}
 use Rattle.requests.specs.declared.request.ShapeOptions.{ShapeOptions}
 use Rattle.program_commands.specs.Exec.{LeavesBy, LeavesSteps}
 use Rattle.program_commands.specs.Explained.{Explains}
@@ -57,9 +57,18 @@ thread_of_scenario (Sweep asked) text old new (inl (s, reads, inl none)) = none
 thread_of_scenario (Sweep asked) text old new (inl (s, reads, inr (no_key, none))) = none
 thread_of_scenario (Sweep asked) text old new (inr (inl (error, due, none))) = none
 thread_of_scenario (Sweep asked) text old new (inr (inr (is, keeps))) = is
+thread_of_scenario (ClaimedSweep asked) text old new (inl (s, reads, inl (ps, bounded, inl none))) = none
+thread_of_scenario (ClaimedSweep asked) text old new (inl (s, reads, inl (ps, bounded, inr (no_key, none)))) = none
+thread_of_scenario (ClaimedSweep asked) text old new (inl (s, reads, inr (error, line, column, none))) = none
+thread_of_scenario (ClaimedSweep asked) text old new (inr (inl (error, due, none))) = none
+thread_of_scenario (ClaimedSweep asked) text old new (inr (inr (is, keeps))) = is
 thread_of_scenario (Explore asked) text old new (inl (s, reads, left)) = left.0
 thread_of_scenario (Explore asked) text old new (inr (inl (error, due, none))) = none
 thread_of_scenario (Explore asked) text old new (inr (inr (is, keeps))) = is
+thread_of_scenario (ClaimedExplore asked) text old new (inl (s, reads, inl (ps, bounded, left))) = left.0
+thread_of_scenario (ClaimedExplore asked) text old new (inl (s, reads, inr (error, line, column, none))) = none
+thread_of_scenario (ClaimedExplore asked) text old new (inr (inl (error, due, none))) = none
+thread_of_scenario (ClaimedExplore asked) text old new (inr (inr (is, keeps))) = is
 
 -- what holds of the bytes that were read, whichever these are, and where none could be read
 from_read : (P : Type 0) (input : Input) (request : Request) (known : Option (List ℕ)) (failed : Bool)

@@ -11,7 +11,7 @@ use Rattle.requests.specs.declared.request.ExecOptions.{ExecOptions}
 use Rattle.requests.specs.declared.request.Request.{Request}
 use Rattle.requests.specs.declared.request.Request.TheVariants.{Exec, Asm, Compile, Dis, Clock, Verify, Explain, Scenario, Prove, Stress, Help}
 use Rattle.requests.specs.declared.request.ScenarioRequest.{ScenarioRequest}
-use Rattle.requests.specs.declared.request.ScenarioRequest.TheVariants.{Run, Lines, ClaimedRun, TracedRun, NodeProgram, Sweep, Explore}
+use Rattle.requests.specs.declared.request.ScenarioRequest.TheVariants.{Run, Lines, ClaimedRun, TracedRun, NodeProgram, Sweep, ClaimedSweep, Explore, ClaimedExplore}
 use Rattle.scenario_text.specs.declared.scenario.Scenario as scenarios
 use Rattle.program_commands.specs.Exec.{LeavesBy}
 use Rattle.commands.specs.Causes.{ReadingHasCause}
@@ -41,7 +41,12 @@ no_read_of_run (TracedRun asked) s old new left = left.0
 no_read_of_run (NodeProgram asked) s old new left = left.0
 no_read_of_run (Sweep asked) s old new (inl none) = none
 no_read_of_run (Sweep asked) s old new (inr (no_key, none)) = none
+no_read_of_run (ClaimedSweep asked) s old new (inl (ps, bounded, inl none)) = none
+no_read_of_run (ClaimedSweep asked) s old new (inl (ps, bounded, inr (no_key, none))) = none
+no_read_of_run (ClaimedSweep asked) s old new (inr (error, line, column, none)) = none
 no_read_of_run (Explore asked) s old new left = left.0
+no_read_of_run (ClaimedExplore asked) s old new (inl (ps, bounded, left)) = left.0
+no_read_of_run (ClaimedExplore asked) s old new (inr (error, line, column, none)) = none
 
 no_read_of_scenario : (asked : ScenarioRequest) (text : List ℕ) (old new : Option (List ℕ))
     → LeavesFor asked old new text (Err faults.Read) → ⊥

@@ -27,7 +27,7 @@ use Rattle.run_lines.specs.Data.{frame_data, judged_seen, pulse_data}
 use Rattle.run_lines.specs.Lines.{first_line, summary_line, told_line, whole_text}
 use Rattle.run_lines.specs.Staged.{Corrupted, Loaded, StagedTold, staged_at, told_corrupt, told_load, told_unload}
 use Rattle.run_lines.specs.Telling.{IsWholeText}
-use Rattle.key_sweep.specs.Sweeps.{IsOfKey, Lines}
+use Rattle.key_sweep.specs.Sweeps.{IsOfKey, IsRowOfKey, Lines}
 
 module _ (s t : Scenario) (same : IsSameScenario s t) where
   run_back : (records : List PulseTold) (memories : List (List ℕ)) → IsRun (bench_of t) (events_of t) records memories
@@ -114,10 +114,14 @@ module _ (s t : Scenario) (same : IsSameScenario s t) where
     summary = summary_back h.records m h.summary;
   }
 
+  row_back : (key : ℕ) (row : List ℕ) → IsRowOfKey t key row → IsRowOfKey s key row
+  row_back key row h =
+      record { summary = h.summary; of_key = key_back key h.summary h.of_key; text = h.text }
+
   pub sweep_back : (first count : ℕ) (text : List ℕ) → Lines t first count text → Lines s first count text
   sweep_back first count text h = record {
-    summaries = h.summaries;
-    each = λ i m at. key_back (first + i) m (h.each i m at);
+    rows = h.rows;
+    each = λ i row at. row_back (first + i) row (h.each i row at);
     all = h.all;
     whole = h.whole;
   }

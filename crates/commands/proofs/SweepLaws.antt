@@ -1,5 +1,5 @@
 -- A run has one summary, and so seeds have one text of lines.
-use Rattle.std.proofs.Common.{◌≡◌, ℕ, suc, ◌+◌, List, [], ◌∷◌, Bool, length, slice_get, Option, Some, None, refl, ap, ap₂, sym, subst, ◌∙◌, arith, inl, inr}
+use Rattle.std.proofs.Common.{◌≡◌, ℕ, suc, ◌+◌, List, [], ◌∷◌, ◌++◌, Bool, length, slice_get, Option, Some, None, refl, ap, ap₂, sym, subst, ◌∙◌, arith, inl, inr}
 use Rattle.std.proofs.lemmas.Bool.{cases_order}
 use Rattle.bench_core.specs.Told.{PulseTold}
 use Rattle.bench_workers.specs.Laws.{OneRun}
@@ -13,8 +13,9 @@ use Rattle.bench_scenario.specs.Verdicts.{judged_of}
 use Rattle.scenario_text.specs.declared.scenario.Scenario.{Scenario}
 use Rattle.scenario_text.specs.Views.{frame_of}
 use Rattle.std.specs.Prelude.{is_some}
-use Rattle.key_sweep.specs.Rows.{sweep_text}
-use Rattle.key_sweep.specs.Sweeps.{IsOfKey, Lines}
+use Rattle.key_sweep.specs.KeyRows.{joined_rows}
+use Rattle.key_sweep.specs.Rows.{sweep_names, summary_row}
+use Rattle.key_sweep.specs.Sweeps.{IsOfKey, IsRowOfKey, Lines}
 
 -- ---- the summary
 
@@ -56,6 +57,11 @@ one_of_key one_run s key m n h g =
     one_summary modulus h.records m n own s h.summary
     (subst (λ (rs : List PulseTold). SumsUp modulus rs (judged_of (frame_of s) own rs) n) same g.summary)
 
+one_row : OneRun → (s : Scenario) (key : ℕ) (row other : List ℕ) → IsRowOfKey s key row → IsRowOfKey s key other
+    → row ≡ other
+one_row one_run s key row other h g =
+    h.text ∙ (ap (summary_row key) (one_of_key one_run s key h.summary g.summary h.of_key g.of_key) ∙ sym g.text)
+
 -- ---- the lines
 
 -- two lists of one length are one if their entries at each place are
@@ -73,6 +79,6 @@ one_list P Q one (x ∷ xs) (y ∷ ys) f g e =
 pub one_sweep : OneRun → (s : Scenario) (first count : ℕ) (text other : List ℕ) → Lines s first count text
     → Lines s first count other → text ≡ other
 one_sweep one_run s first count text other h g =
-    let same = one_list (λ k. IsOfKey s (first + k)) (λ k. IsOfKey s (first + k))
-    (λ k. one_of_key one_run s (first + k)) h.summaries g.summaries h.each g.each (h.all ∙ sym g.all) in
-    h.whole ∙ (ap (sweep_text first) same ∙ sym g.whole)
+    let same = one_list (λ k. IsRowOfKey s (first + k)) (λ k. IsRowOfKey s (first + k))
+    (λ k. one_row one_run s (first + k)) h.rows g.rows h.each g.each (h.all ∙ sym g.all) in
+    h.whole ∙ (ap (λ rows. sweep_names ++ joined_rows rows) same ∙ sym g.whole)

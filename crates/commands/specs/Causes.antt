@@ -7,7 +7,7 @@ use Rattle.requests.specs.Shapes.{HasShape}
 use Rattle.requests.specs.declared.request.Request.{Request}
 use Rattle.requests.specs.declared.request.Request.TheVariants.{Exec, Asm, Compile, Dis, Clock, Verify, Explain, Scenario, Prove, Stress, Help}
 use Rattle.requests.specs.declared.request.ScenarioRequest.{ScenarioRequest}
-use Rattle.requests.specs.declared.request.ScenarioRequest.TheVariants.{Run, Lines, ClaimedRun, TracedRun, NodeProgram, Sweep, Explore}
+use Rattle.requests.specs.declared.request.ScenarioRequest.TheVariants.{Run, Lines, ClaimedRun, TracedRun, NodeProgram, Sweep, ClaimedSweep, Explore, ClaimedExplore}
 use Rattle.commands.specs.Perform.{CarriesOut, PerformsRequest}
 
 -- a command that fails if a thread of its own can't be started
@@ -18,7 +18,9 @@ ScenarioNeedsThreads (ClaimedRun asked) = Unit {0}
 ScenarioNeedsThreads (TracedRun asked) = ⊥
 ScenarioNeedsThreads (NodeProgram asked) = ⊥
 ScenarioNeedsThreads (Sweep asked) = ⊥
+ScenarioNeedsThreads (ClaimedSweep asked) = ⊥
 ScenarioNeedsThreads (Explore asked) = ⊥
+ScenarioNeedsThreads (ClaimedExplore asked) = ⊥
 
 abbrev pub NeedsThreads : Request → Type 0
 NeedsThreads (Exec asked) = ⊥

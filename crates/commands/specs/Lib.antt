@@ -1,4 +1,5 @@
 pub mod Causes
+pub mod ClaimedExplore
 pub mod Explore
 pub mod Perform
 pub mod Scenarios

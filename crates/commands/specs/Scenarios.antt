@@ -8,10 +8,12 @@ use Rattle.command_answers.specs.declared.ending.Ending.{Ending}
 use Rattle.command_answers.specs.declared.ending.Ending.TheVariants.{Refused}
 use Rattle.command_answers.specs.declared.fault.Fault.{Fault}
 use Rattle.requests.specs.declared.request.ScenarioRequest.{ScenarioRequest}
-use Rattle.requests.specs.declared.request.ScenarioRequest.TheVariants.{Run, Lines, ClaimedRun, TracedRun, NodeProgram, Sweep, Explore}
+use Rattle.requests.specs.declared.request.ScenarioRequest.TheVariants.{Run, Lines, ClaimedRun, TracedRun, NodeProgram, Sweep, ClaimedSweep, Explore, ClaimedExplore}
+use Rattle.commands.specs.ClaimedExplore.{LeavesClaimedExplore}
 use Rattle.commands.specs.Explore.{LeavesExplored}
 use Rattle.command_answers.specs.Faults.{IsOutOfMemory}
 use Rattle.run_commands.specs.ClaimedRun.{LeavesClaimedRun}
+use Rattle.run_commands.specs.ClaimedSweep.{LeavesClaimedSweep}
 use Rattle.run_commands.specs.Lines.{LeavesLined}
 use Rattle.run_commands.specs.NodeProgram.{LeavesNodeProgram}
 use Rattle.command_answers.specs.Output.{Leaves, LeavesNothing}
@@ -27,6 +29,8 @@ LeavesOf (ClaimedRun asked) old new s ended = LeavesClaimedRun asked old new s e
 LeavesOf (TracedRun asked) old new s ended = LeavesTracedRun old new asked s ended
 LeavesOf (NodeProgram asked) old new s ended = LeavesNodeProgram old new asked s ended
 LeavesOf (Sweep asked) old new s ended = LeavesSwept old new s asked.keys ended
+LeavesOf (ClaimedSweep asked) old new s ended = LeavesClaimedSweep asked old new s ended
+LeavesOf (ClaimedExplore asked) old new s ended = LeavesClaimedExplore old new asked s ended
 LeavesOf (Explore asked) old new s ended = LeavesExplored old new asked s ended
 
 -- the line that refuses a text, or its first bytes if a write failed

@@ -26,6 +26,7 @@
 //! ```
 #![tactic(auto)]
 
+mod claimed_explore;
 mod explore;
 pub mod laws;
 pub mod perform;

@@ -7,12 +7,14 @@ ghost use Rattle.command_answers.specs.Faults.{HasThreadCause, HasWriteCause, Is
 ghost use Rattle.command_answers.specs.Said.{SaysAt};
 ghost use Rattle.commands.specs.Scenarios.{LeavesFor, LeavesOf};
 
+use crate::claimed_explore::claimed_explore;
 use crate::explore::explore;
 use bench_space::Progress;
 use bench_workers::TrackedThreads;
 use command_answers::{Ending, Fault, Rejection, give, reject};
 use requests::ScenarioRequest;
 use run_commands::claimed_run::claimed_run;
+use run_commands::claimed_sweep::claimed_sweep;
 use run_commands::lines::lines;
 use run_commands::node_program::node_program;
 use run_commands::run::run;
@@ -113,6 +115,23 @@ fn on_scenario<T: Threads + Wait + Sync, W: Sink, E: Sink, P: Progress>(
             scenario,
             out,
             err,
+        ),
+        ScenarioRequest::ClaimedSweep(options) => claimed_sweep(
+            threads.runtime,
+            alloc,
+            options,
+            scenario,
+            out,
+            err,
+        ),
+        ScenarioRequest::ClaimedExplore(options) => claimed_explore(
+            threads.runtime,
+            alloc,
+            options,
+            scenario,
+            out,
+            err,
+            progress,
         ),
         ScenarioRequest::Explore(options) => {
             give(

@@ -10,6 +10,7 @@ mod certified_steps_example;
 mod claim_proofs_example;
 mod claim_text_example;
 mod claim_tokens_example;
+mod claims_json_example;
 mod clock_nodes_example;
 mod clock_rule_example;
 mod command_words_example;

@@ -120,7 +120,7 @@ impl fmt::Display for CrowdedText {
 
 /// Why a search isn't finished.
 #[derive(Clone, Copy)]
-struct CauseText(Cause);
+pub(crate) struct CauseText(pub(crate) Cause);
 
 impl fmt::Display for CauseText {
     ghost output = { λ text. Some (cause_text text.0) };
@@ -455,10 +455,10 @@ impl fmt::Display for FoundLines<'_> {
 
 /// Who is who and where the bench begins, with the text of whole memories.
 #[derive(Clone, Copy)]
-struct TriedText<'a> {
-    digits: &'a str,
-    start: &'a Starts,
-    tried: &'a Tried,
+pub(crate) struct TriedText<'a> {
+    pub(crate) digits: &'a str,
+    pub(crate) start: &'a Starts,
+    pub(crate) tried: &'a Tried,
 }
 
 impl fmt::Display for TriedText<'_> {

@@ -1,6 +1,6 @@
 -- The value of an exploration has no float, and nests no deeper than six levels.
 use Rattle.std.proofs.Common.{ℕ, suc, List, [], ◌∷◌, ◌++◌}
-use Rattle.std.specs.Prelude.{codes, map, Option, option_map}
+use Rattle.std.specs.Prelude.{codes, map, string_bytes, Option, option_map}
 use Rattle.std.specs.List.{AllByRecursion}
 use Rattle.hex.specs.Hex.{encode_lower}
 use Rattle.serde_json.specs.Data.{string}
@@ -22,6 +22,12 @@ use Rattle.explored.specs.declared.options.Memories.TheVariants as memories
 use Rattle.explored.specs.declared.options.Starts.{Starts}
 use Rattle.explored.specs.declared.options.Starts.TheVariants as starts
 use Rattle.exploration.specs.Answers.{is_alone}
+use Rattle.exploration.specs.declared.claims.ClaimFound.{ClaimFound}
+use Rattle.exploration.specs.Claims.{claim_answer, scenario_in}
+use Rattle.properties.specs.declared.answers.Violation.{Violation}
+use Rattle.properties.specs.declared.property.Property.{Property}
+use Rattle.exploration.specs.declared.claims.ClaimAnswer.{ClaimAnswer}
+use Rattle.exploration_json.specs.Claims.{answer_pulses, answer_violation, answer_word, claim_answer_members, claim_data, claim_limit, claim_members, claim_search_members, claim_states, claim_transitions, nodes_data, tried_data, tried_members}
 use Rattle.exploration_json.specs.Data.{agreed_of, agreement_word, answer_members, any_data, byte_span_data, cells_data, exploration_data, exploration_members, image_data, limit_of, least_mean_of, method_of, mean_data, mean_of, memories_member, node_members, odds_data, odds_most_parts, odds_of, odds_parts, pulses_of, question_members, question_word, reach_data, reach_of, scenario_of, search_members, span_data, spans_data, stabilisation_of, stabilisation_word, start_data, states_of, transitions_of, violated_in, word_data}
 
 abbrev AllPlain : ℕ → List Member → Type 0
@@ -173,3 +179,49 @@ plain_exploration asked tried found =
     let all = both_plain 5 (node_members tried)
     (question_members asked tried ++ (search_members found ++ answer_members tried found)) (plain_nodes tried) more in
     plain_object 5 (exploration_members asked tried found) all
+
+-- ---- properties
+
+plain_violators : (v : Violation) → IsPlain 5 (nodes_data v)
+plain_violators v = plain_numbers (v.first ∷ v.second ∷ [])
+
+plain_claim_answer : (p : Property) (answer : ClaimAnswer) → AllPlain 5 (claim_answer_members p answer)
+plain_claim_answer p answer = (
+  plain_number 5 p.line,
+  (
+    plain_string 5 (string_bytes p.text),
+    (
+      plain_string 5 (answer_word answer),
+      (
+        plain_count 5 (answer_pulses answer),
+        (
+          plain_count 5 (option_map (λ v. v.pulse) (answer_violation answer)),
+          (plain_option nodes_data 5 plain_violators (answer_violation answer), tt),
+        ),
+      ),
+    ),
+  ),
+)
+
+plain_claim_search : (found : ClaimFound) → AllPlain 5 (claim_search_members found)
+plain_claim_search found = (
+  plain_number 5 (claim_states found),
+  (
+    plain_count 5 (claim_transitions found),
+    (plain_word 5 (claim_limit found), (plain_word 5 (scenario_in found), tt)),
+  ),
+)
+
+pub plain_claim : (p : Property) (found : ClaimFound) → IsPlain 6 (claim_data p found)
+plain_claim p found =
+    plain_object 5 (claim_members p found)
+    (both_plain 5 (claim_answer_members p (claim_answer p found)) (claim_search_members found)
+    (plain_claim_answer p (claim_answer p found)) (plain_claim_search found))
+
+plain_tried_members : (asked : ExploreOptions) (tried : Tried) → AllPlain 5 (tried_members asked tried)
+plain_tried_members asked tried = (plain_spans 3 tried.mail.items, (plain_start asked.start, tt))
+
+pub plain_tried : (asked : ExploreOptions) (tried : Tried) → IsPlain 6 (tried_data asked tried)
+plain_tried asked tried =
+    plain_object 5 (node_members tried ++ tried_members asked tried)
+    (both_plain 5 (node_members tried) (tried_members asked tried) (plain_nodes tried) (plain_tried_members asked tried))

@@ -19,7 +19,7 @@ use serde_json::{Map, Value, put};
 use std::alloc::{AllocError, Global};
 
 /// Adds who is who.
-fn add_nodes(
+pub(crate) fn add_nodes(
     alloc: Global,
     members: &mut Map<String, Value>,
     tried: &Tried,

@@ -59,7 +59,7 @@ pub(crate) fn method_of(found: &Found) -> &'static str
 }
 
 /// Returns the word for a limit.
-fn limit_word(cause: Cause) -> &'static str
+pub(crate) fn limit_word(cause: Cause) -> &'static str
     ensures { result.now ≡ limit_word cause }
 {
     match cause {

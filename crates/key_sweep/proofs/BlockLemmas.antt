@@ -1,50 +1,44 @@
 -- The front of a block of keys.
-use Rattle.std.proofs.Common.{◌≡◌, ℕ, zero, suc, ◌≤◌, List, [], ◌∷◌, length, Vec, Ok, Err, Result, IfOk, arith, ap, subst, sym, ◌∙◌}
+use Rattle.std.proofs.Common.{◌≡◌, ℕ, ◌+◌, zero, suc, ◌≤◌, List, [], ◌∷◌, length, Vec, Ok, Err, Result, IfOk, arith, refl, ap, subst, ◌∙◌}
 use Rattle.std.specs.Prelude.{Option, Some, None, slice_get}
 use Rattle.std.specs.declared.alloc.Global.{Global}
 use Rattle.std.specs.declared.alloc.AllocError.{AllocError}
-use Rattle.scenario_text.specs.declared.scenario.Scenario.{Scenario}
-use Rattle.bench_scenario.specs.declared.summary.RunSummary.{RunSummary}
-use Rattle.key_sweep.specs.Sweeps.{AreOfKeys}
-use Rattle.key_sweep.specs.inner.Blocks.{AreRunSlots, somes_front}
+use Rattle.key_sweep.specs.KeyRows.{joined_rows}
+use Rattle.key_sweep.specs.declared.block.Block.{Block}
+use Rattle.key_sweep.specs.inner.Blocks.{AreSlots, IsBlock, front_rows}
 
-front_at : {A : Type 0} (slots : List (Option A)) (i : ℕ) (x : A) → slice_get (somes_front slots) i ≡ Some x
-    → slice_get slots i ≡ Some (Some x)
-front_at [] i x at = absurd cc
-front_at (None ∷ slots) i x at = absurd cc
-front_at (Some y ∷ slots) zero x at = let same : y ≡ x = cc in cc
-front_at (Some y ∷ slots) (suc i) x at = front_at slots i x at
+front_at : (slots : List (Option (Vec ℕ Global))) (i : ℕ) (row : List ℕ) → slice_get (front_rows slots) i ≡ Some row
+    → (v : Vec ℕ Global) × (slice_get slots i ≡ Some (Some v)) × (v.items ≡ row)
+front_at [] i row at = absurd cc
+front_at (None ∷ slots) i row at = absurd cc
+front_at (Some v ∷ slots) zero row at = (v, refl, (let same : v.items ≡ row = cc in same))
+front_at (Some v ∷ slots) (suc i) row at = front_at slots i row at
 
-front_length : {A : Type 0} (slots : List (Option A)) → length (somes_front slots) ≤ length slots
+front_length : (slots : List (Option (Vec ℕ Global))) → length (front_rows slots) ≤ length slots
 front_length [] = omega arith
 front_length (None ∷ slots) = omega arith
-front_length (Some y ∷ slots) = let rest = front_length slots in omega (arith, rest)
+front_length (Some v ∷ slots) = let rest = front_length slots in omega (arith, rest)
 
-front_of_keys : (s : Scenario) (first count : ℕ) (slots : List (Option RunSummary)) (front : List RunSummary)
-    → front ≡ somes_front slots → AreRunSlots s first count slots → AreOfKeys s first front
-front_of_keys s first count slots front is each = λ i m at.
-    each.1 i m (front_at slots i m (subst (λ xs. slice_get xs i ≡ Some m) is at))
+front_block : (is_row : ℕ → List ℕ → Type 0) (first count : ℕ) (slots : List (Option (Vec ℕ Global))) (block : Block)
+    → block.text.items ≡ joined_rows (front_rows slots) → block.rows ≡ length (front_rows slots)
+    → AreSlots is_row first count slots → IsBlock is_row first count block.text.items block.rows
+front_block is_row first count slots block text rows are = record {
+  rows = front_rows slots;
+  each = λ i row at.
+      let found = front_at slots i row at in subst (is_row (first + i)) found.2 (are.each i found.0 found.1);
+  all = rows;
+  few = (let few = front_length slots in
+      let whole = are.all in omega (arith, few, whole, rows));
+  whole = text;
+}
 
-front_few : (s : Scenario) (first count : ℕ) (slots : List (Option RunSummary)) (front : List RunSummary)
-    → front ≡ somes_front slots → AreRunSlots s first count slots → length front ≤ count
-front_few s first count slots front is each =
-    let few = front_length slots in
-    let whole = each.0 in
-    subst (λ xs. length xs ≤ count) (sym is) (omega (arith, few, whole))
-
--- where memory ran out there are none
-pub keys_given : (s : Scenario) (first count : ℕ) (slots slice : List (Option RunSummary))
-    (result : Result (Vec RunSummary Global) AllocError) → slice ≡ slots
-    → IfOk result (λ front. front.items ≡ somes_front slice) → AreRunSlots s first count slots
-    → IfOk result (λ front. AreOfKeys s first front.items)
-keys_given s first count slots slice (Ok front) same is each =
-    front_of_keys s first count slots front.items (is ∙ ap (λ xs. somes_front xs) same) each
-keys_given s first count slots slice (Err e) same is each = tt
-
-pub few_given : (s : Scenario) (first count : ℕ) (slots slice : List (Option RunSummary))
-    (result : Result (Vec RunSummary Global) AllocError) → slice ≡ slots
-    → IfOk result (λ front. front.items ≡ somes_front slice) → AreRunSlots s first count slots
-    → IfOk result (λ front. length front.items ≤ count)
-few_given s first count slots slice (Ok front) same is each =
-    front_few s first count slots front.items (is ∙ ap (λ xs. somes_front xs) same) each
-few_given s first count slots slice (Err e) same is each = tt
+-- where memory ran out there is none
+pub block_given : (is_row : ℕ → List ℕ → Type 0) (first count : ℕ) (slots slice : List (Option (Vec ℕ Global)))
+    (result : Result Block AllocError) → slice ≡ slots
+    → IfOk result (λ block. block.text.items ≡ joined_rows (front_rows slice))
+    → IfOk result (λ block. block.rows ≡ length (front_rows slice)) → AreSlots is_row first count slots
+    → IfOk result (λ block. IsBlock is_row first count block.text.items block.rows)
+block_given is_row first count slots slice (Ok block) same text rows are =
+    front_block is_row first count slots block (text ∙ ap (λ s. joined_rows (front_rows s)) same)
+    (rows ∙ ap (λ s. length (front_rows s)) same) are
+block_given is_row first count slots slice (Err e) same text rows are = tt

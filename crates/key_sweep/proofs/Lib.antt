@@ -1,2 +1,2 @@
 mod BlockLemmas
-mod LineLemmas
+mod RowLemmas

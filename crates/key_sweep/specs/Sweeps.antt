@@ -1,6 +1,6 @@
 -- What a sweep leaves on its writer (docs/LUCK.md, "What is promised").
-use Rattle.std.specs.Prelude.{◌≡◌, ◌⊎◌, ◌||◌, Bool, true, false, IsTrue, map, ℕ, ◌+◌, ◌<◌, ◌≤◌, is_some, List, length, slice_get, Option, Some, Result, Ok, Err}
-use Rattle.std.specs.Io.KnownBytes.{Appends, Keeps}
+use Rattle.std.specs.Prelude.{◌≡◌, ◌||◌, Bool, true, false, IsTrue, map, ℕ, is_some, List, Option, Result, Ok, Err}
+use Rattle.std.specs.Io.KnownBytes.{Keeps}
 use Rattle.bench_core.specs.Told.{PulseTold}
 use Rattle.bench_workers.specs.Runs.{IsRun}
 use Rattle.scenario_text.specs.declared.scenario.Coins.{Coins}
@@ -13,13 +13,12 @@ use Rattle.bench_scenario.specs.Events.{events_of}
 use Rattle.bench_scenario.specs.Runs.{bench_of}
 use Rattle.bench_scenario.specs.Summary.{IsSummary}
 use Rattle.bench_scenario.specs.declared.summary.RunSummary.{RunSummary}
-use Rattle.stream_io.specs.declared.parts.PartFault.{PartFault}
-use Rattle.stream_io.specs.declared.parts.PartFault.TheVariants as parts
-use Rattle.stream_io.specs.Parts.{Breaks, HasPartCause}
-use Rattle.parameters.specs.Keys.{KeyRange, count_of}
+use Rattle.stream_io.specs.Parts.{HasPartCause}
+use Rattle.parameters.specs.Keys.{KeyRange}
 use Rattle.key_sweep.specs.declared.sweeping.SweepFault.{SweepFault}
 use Rattle.key_sweep.specs.declared.sweeping.SweepFault.TheVariants as faults
-use Rattle.key_sweep.specs.Rows.{sweep_text}
+use Rattle.key_sweep.specs.KeyRows.{KeyRows, LeavesRows}
+use Rattle.key_sweep.specs.Rows.{sweep_names, summary_row}
 
 -- what the run of the scenario comes to, if it has this key
 pub record IsOfKey (s : Scenario) (key : ℕ) (m : RunSummary) : Type 0 where
@@ -28,34 +27,15 @@ pub record IsOfKey (s : Scenario) (key : ℕ) (m : RunSummary) : Type 0 where
   pub run : IsRun (bench_of s) (events_of (keyed s key)) records memories
   pub summary : IsSummary (frame_of s) (is_some s.clock) records m
 
--- of keys in a row, the first of which is this one
-abbrev pub AreOfKeys : Scenario → ℕ → List RunSummary → Type 0
-AreOfKeys s first ms = (i : ℕ) (m : RunSummary) → slice_get ms i ≡ Some m → IsOfKey s (first + i) m
+-- the row of that run
+pub record IsRowOfKey (s : Scenario) (key : ℕ) (row : List ℕ) : Type 0 where
+  pub summary : RunSummary
+  pub of_key : IsOfKey s key summary
+  pub text : row ≡ summary_row key summary
 
 -- the lines of this many keys from this one on
-pub record Lines (s : Scenario) (first count : ℕ) (told : List ℕ) : Type 0 where
-  pub summaries : List RunSummary
-  pub each : AreOfKeys s first summaries
-  pub all : length summaries ≡ count
-  pub whole : told ≡ sweep_text first summaries
-
--- the lines of the first keys, and not of all
-pub record LeavesFirstRows (old new : Option (List ℕ)) (s : Scenario) (keys : KeyRange) : Type 0 where
-  pub told : List ℕ
-  pub count : ℕ
-  pub fewer : count < count_of keys
-  pub lines : Lines s keys.first count told
-  pub left : Appends old new told
-
--- the lines of all keys; the front of them if a write failed; those of the first keys if there was no memory for
--- one more
-abbrev pub LeavesRows : Option (List ℕ) → Option (List ℕ) → Scenario → KeyRange → Result (Unit {0}) PartFault → Type 0
-LeavesRows old new s keys (Ok done) =
-    (told : List ℕ) × Lines s keys.first (count_of keys) told × Appends old new told
-LeavesRows old new s keys (Err (parts.Write written)) =
-    (told : List ℕ) × (count : ℕ) × (count ≤ count_of keys) × Lines s keys.first count told
-    × Breaks old new told written
-LeavesRows old new s keys (Err parts.Memory) = Keeps old new ⊎ LeavesFirstRows old new s keys
+abbrev pub Lines : Scenario → ℕ → ℕ → List ℕ → Type 0
+Lines s first count told = KeyRows (IsRowOfKey s) sweep_names first count told
 
 abbrev pub are_drawn : Coins → Bool
 are_drawn Zeros = false
@@ -66,11 +46,18 @@ are_drawn Chacha = true
 abbrev pub uses_key : Scenario → Bool
 uses_key s = are_drawn s.coins || any_noise (map load_draft s.loads.items)
 
--- the same, and nothing if nothing is drawn by the key
+-- the rows of keys, and nothing if nothing is drawn by the key
+abbrev pub LeavesSweepOf : (ℕ → List ℕ → Type 0) → List ℕ → Option (List ℕ) → Option (List ℕ) → Scenario → KeyRange
+    → Result (Unit {0}) SweepFault → Type 0
+LeavesSweepOf is_row names old new s keys (Err faults.NoKey) = (uses_key s ≡ false) × Keeps old new
+LeavesSweepOf is_row names old new s keys (Err (faults.Part fault)) =
+    IsTrue (uses_key s) × LeavesRows is_row names old new keys (Err fault)
+LeavesSweepOf is_row names old new s keys (Ok done) =
+    IsTrue (uses_key s) × LeavesRows is_row names old new keys (Ok done)
+
+-- those of the scenario's runs
 abbrev pub LeavesSweep : Option (List ℕ) → Option (List ℕ) → Scenario → KeyRange → Result (Unit {0}) SweepFault → Type 0
-LeavesSweep old new s keys (Err faults.NoKey) = (uses_key s ≡ false) × Keeps old new
-LeavesSweep old new s keys (Err (faults.Part fault)) = IsTrue (uses_key s) × LeavesRows old new s keys (Err fault)
-LeavesSweep old new s keys (Ok done) = IsTrue (uses_key s) × LeavesRows old new s keys (Ok done)
+LeavesSweep old new s keys result = LeavesSweepOf (IsRowOfKey s) sweep_names old new s keys result
 
 -- if not all lines could be written, a call of `write` failed or took nothing; or memory ran out, or there is no key
 abbrev pub HasSweepCause : (failed : Bool) → SweepFault → Type 0

@@ -1,6 +1,7 @@
 //! Runs a scenario with one seed after the other (docs/LUCK.md).
 //!
 //! - `sweep` writes a row of CSV for each seed.
+//! - `sweep_rows` writes the rows of a `RowMaker` instead.
 //! - `KeySpan` has the seeds from the first to the last.
 //!
 //! ```
@@ -26,8 +27,13 @@
 #![tactic(auto)]
 
 mod block;
+mod maker;
 mod rows;
+mod runs;
 mod sweeping;
+mod writing;
 
+pub use maker::RowMaker;
 pub use parameters::{KeySpan, MAX_SWEEP_KEY};
-pub use sweeping::{MAX_SWEEPERS, SweepFault, sweep};
+pub use sweeping::{SweepFault, sweep, sweep_rows};
+pub use writing::MAX_SWEEPERS;

@@ -1,13 +1,13 @@
-//! The lines of a sweep.
-ghost use Rattle.std.specs.Prelude.{◌≡◌, ◌+◌, ◌++◌, ◌≤◌, ◌^◌, IfOk, OnOk, length, map, string_bytes};
+//! The rows of a sweep.
+ghost use Rattle.std.specs.Prelude.{◌≡◌, ◌++◌, IfOk, OnOk, map, string_bytes};
 ghost use Rattle.csv.specs.Writing.{default_writer, row_text};
-ghost use Rattle.key_sweep.specs.Rows.{fields_of, names, number_text, csv_rows};
+ghost use Rattle.key_sweep.specs.Rows.{sweep_names, number_text, summary_row};
 
 use bench_scenario::RunSummary;
 use csv::WriterBuilder;
 use std::alloc::{AllocError, Global};
 
-/// Returns the line of these fields.
+/// Returns the row of these fields.
 fn row_of(alloc: Global, fields: &[&[u8]]) -> Result<Vec<u8>, AllocError>
     ensures { IfOk result (λ text. text.items ≡ row_text default_writer (map (λ f. f.now) fields.now)) }
 {
@@ -18,9 +18,9 @@ fn row_of(alloc: Global, fields: &[&[u8]]) -> Result<Vec<u8>, AllocError>
     writer.into_inner().map_err(|_| AllocError)
 }
 
-/// Returns the first line.
+/// Returns the row of names.
 pub(crate) fn names_row(alloc: Global) -> Result<Vec<u8>, AllocError>
-    ensures { IfOk result (λ text. text.items ≡ row_text default_writer names) }
+    ensures { IfOk result (λ text. text.items ≡ sweep_names) }
 {
     row_of(
         alloc,
@@ -45,9 +45,9 @@ fn number_text(alloc: Global, number: Option<usize>) -> Result<String, AllocErro
     }
 }
 
-/// Returns the line of the run with this key.
-fn key_row(alloc: Global, key: u64, summary: &RunSummary) -> Result<Vec<u8>, AllocError>
-    ensures { IfOk result (λ text. text.items ≡ row_text default_writer (fields_of key summary.now)) }
+/// Returns the row of the run with this key.
+pub(crate) fn key_row(alloc: Global, key: u64, summary: &RunSummary) -> Result<Vec<u8>, AllocError>
+    ensures { IfOk result (λ text. text.items ≡ summary_row key summary.now) }
 {
     let name = key.to_string(alloc)?;
     let agreed = summary.agreed.to_string(alloc)?;
@@ -66,21 +66,4 @@ fn key_row(alloc: Global, key: u64, summary: &RunSummary) -> Result<Vec<u8>, All
             steps.as_bytes(),
         ],
     )
-}
-
-/// Returns the lines of keys in a row, the first of which is this one.
-pub(crate) fn rows_text(
-    alloc: Global,
-    first: u64,
-    summaries: &[RunSummary],
-) -> Result<Vec<u8>, AllocError>
-    requires { first + length summaries.now ≤ 2 ^ 63 }
-    ensures { IfOk result (λ text. text.items ≡ csv_rows first summaries.now) }
-{
-    let mut text = Vec::new(alloc);
-    for place in 0..summaries.len() {
-        let row = key_row(alloc, first + place as u64, &summaries[place])?;
-        text.extend_from_slice(row.as_slice())?;
-    }
-    Ok(text)
 }

@@ -32,8 +32,8 @@ fn verdict_at(place: usize, claims: &PulseClaims) -> PulseVerdict
     }
 }
 
-/// Returns the answer of the property at a place.
-fn answer_at(
+/// Returns the answer of the property at a place, which has this form.
+pub fn answer_at(
     alloc: Global,
     form: Form,
     place: usize,

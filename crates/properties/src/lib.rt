@@ -29,7 +29,7 @@ mod texts;
 mod verdicts;
 
 pub use answers::{Answer, PulseVerdict, Violation, answer_of};
-pub use claims::{PulseClaims, add_claims};
+pub use claims::{PulseClaims, add_claims, answer_at};
 pub use names::{MAX_NAMED_WORDS, PairName, Side, local_of};
 pub use pairs::{NodeView, PairView, number_of};
 pub use property::{Form, MAX_WITHIN, PairTerm, Property};

@@ -27,7 +27,7 @@ pub use explored::{
 };
 pub use parameters::{Detail, KeySpan, LineFormat, LinesForm, PulseSpan, StressOptions};
 pub use request::{
-    ClaimedRunOptions, ClockOptions, CompileOptions, CompiledForm, ExecOptions, ExplainOptions,
-    LinesOptions, NodeInPulse, NodeProgramOptions, ProveOptions, Request, RunOptions,
-    ScenarioRequest, ShapeOptions, SweepOptions,
+    ClaimedExploreOptions, ClaimedRunOptions, ClaimedSweepOptions, ClockOptions, CompileOptions,
+    CompiledForm, ExecOptions, ExplainOptions, LinesOptions, NodeInPulse, NodeProgramOptions,
+    ProveOptions, Request, RunOptions, ScenarioRequest, ShapeOptions, SweepOptions,
 };

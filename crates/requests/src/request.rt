@@ -43,7 +43,11 @@ pub enum ScenarioRequest {
     /// `dis --node`.
     NodeProgram(NodeProgramOptions),
     Sweep(SweepOptions),
+    /// `sweep --claims`.
+    ClaimedSweep(ClaimedSweepOptions),
     Explore(ExploreOptions),
+    /// `explore --claims`.
+    ClaimedExplore(ClaimedExploreOptions),
 }
 
 /// The nodes and the memory that are asked for. They may make no shape.
@@ -110,6 +114,8 @@ pub struct LinesOptions {
 #[derive(Debug, Drop)]
 pub struct ClaimedRunOptions {
     pub run: RunOptions,
+    /// Whether verdicts and answers are asked for as lines of JSON, without the report.
+    pub json: bool,
     /// The text of the properties by which the run is judged.
     pub claims: String,
 }
@@ -135,6 +141,23 @@ pub struct SweepOptions {
     pub keys: KeySpan,
     /// How many workers run whole scenarios; as many as there are processors where none are named.
     pub workers: Option<u32>,
+}
+
+/// The options of `sweep --claims`.
+#[derive(Debug, Drop)]
+pub struct ClaimedSweepOptions {
+    pub sweep: SweepOptions,
+    /// The text of the properties whose violations are counted.
+    pub claims: String,
+}
+
+/// The options of `explore --claims`.
+#[derive(Debug, Drop)]
+pub struct ClaimedExploreOptions {
+    /// It asks about stabilisation, without odds, in lines of text or of JSON.
+    pub explore: ExploreOptions,
+    /// The text of the properties, each of which is proved or gets a counterexample.
+    pub claims: String,
 }
 
 /// The options of `prove`: the texts of a rule and of claims about it.

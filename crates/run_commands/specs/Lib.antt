@@ -1,4 +1,5 @@
 pub mod ClaimedRun
+pub mod ClaimedSweep
 pub mod Run
 pub mod Lines
 pub mod Stress

@@ -1,6 +1,8 @@
 //! Has the commands that run benches: `run` with its forms, `dis --node`, `sweep` and `stress` (docs/COMMANDS.md).
 //!
 //! - `run::run` writes the report of a scenario.
+//! - `claims_file::properties_in` returns the properties of the text of `--claims`, and `claims_file::refused_claims` the
+//!   answer that refuses it.
 //! - `lines::lines` writes the lines of `run --json`.
 //! - `sweep::sweep` writes a row for each seed.
 //!
@@ -29,6 +31,8 @@
 #![tactic(auto)]
 
 pub mod claimed_run;
+pub mod claimed_sweep;
+pub mod claims_file;
 pub mod lines;
 mod node_lines;
 pub mod node_program;

@@ -1,6 +1,6 @@
 //! `sweep`: a line for each key of a scenario.
 ghost use Rattle.std.specs.Prelude.{◌≡◌, ◌≤◌, IfErr, IfOk, List, ℕ};
-ghost use Rattle.key_sweep.specs.declared.sweeping.TheConstants.{MAX_SWEEPERS};
+ghost use Rattle.key_sweep.specs.declared.writing.TheConstants.{MAX_SWEEPERS};
 ghost use Rattle.scenario_text.specs.Texts.{ReadsText};
 ghost use Rattle.command_answers.specs.declared.ending.Ending.TheVariants.{Refused};
 ghost use Rattle.command_answers.specs.Faults.{HasWriteCause, IsOutOfMemory};
@@ -44,7 +44,7 @@ pub fn sweep<T: Threads + Wait + Sync, W: Sink, E: Sink>(
 }
 
 /// Returns as many workers as are asked for, or one for each processor, clamped to `1..=MAX_SWEEPERS`.
-fn workers_for<T: Threads>(rt: &T, asked: Option<u32>) -> u32
+pub(crate) fn workers_for<T: Threads>(rt: &T, asked: Option<u32>) -> u32
     ensures some { 1 ≤ result }
     ensures few { result ≤ MAX_SWEEPERS }
 {
@@ -58,7 +58,7 @@ fn workers_for<T: Threads>(rt: &T, asked: Option<u32>) -> u32
 }
 
 /// Returns the refusal of a scenario of which nothing is drawn by a key.
-fn no_key(alloc: Global) -> Result<Response, Fault>
+pub(crate) fn no_key(alloc: Global) -> Result<Response, Fault>
     ensures text { IfOk result (λ response. response.text.items ≡ no_key_line) }
     ensures ending { IfOk result (λ response. response.ending ≡ Refused) }
     ensures noted { IfOk result IsNoted }

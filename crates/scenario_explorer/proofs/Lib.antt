@@ -1,4 +1,5 @@
 pub mod PlaceLemmas
+pub mod ClaimLemmas
 pub mod ExploreLemmas
 pub mod TheoremLemmas
 mod OneExploration

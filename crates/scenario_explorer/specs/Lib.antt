@@ -1,3 +1,4 @@
+pub mod Claims
 pub mod Explore
 pub mod OneExploration
 pub mod RuleSystem

@@ -1,5 +1,6 @@
 //! Explores the bench of a scenario over all coins and messages (docs/EXPLORE.md).
 //!
+//! - `claims_on` returns what was found of properties, or why the scenario is not explored.
 //! - `finding_on` returns what was found, or why the scenario is not explored.
 //! - `unfit_of` returns why a scenario is not explored, if it is not.
 //! - `states_enough` returns a limit of states that is enough, if one was found.
@@ -31,6 +32,8 @@
 //! ```
 #![tactic(auto)]
 
+mod aims;
+mod claims;
 mod exploring;
 mod fit;
 mod laws;
@@ -39,6 +42,7 @@ mod theorem;
 mod violation;
 mod wider;
 
+pub use claims::claims_on;
 pub use exploring::finding_on;
 pub use fit::{uncovered_of, unfit_of};
 pub use laws::{one_exploration, rules_explored, rules_move};

@@ -1,5 +1,5 @@
 use bench_workers::TrackedThreads;
-use claimed_runs::{ClaimedRun, write_claims};
+use claimed_runs::{ClaimedRun, ClaimsForm, write_claims};
 use scenario_text::scenario_in;
 use std::test::Fail;
 use stream_io::Tracked;
@@ -12,6 +12,7 @@ fn claimed_runs_example(rt: HostRuntime) -> Result<(), Fail> {
     let asked = ClaimedRun {
         scenario: &scenario,
         properties: &[],
+        form: ClaimsForm::Text,
         workers: 1,
     };
     let mut threads = TrackedThreads::of(&rt);

@@ -1,6 +1,6 @@
 use Rattle.command_answers.proofs.WriteLemmas.{memory_unwritten}
 use Rattle.command_answers.proofs.StartLemmas.{gives_started, memory_started}
-use Rattle.commands.proofs.StartLemmas.{sweep_started}
+use Rattle.commands.proofs.StartLemmas.{claimed_explore_started, claimed_sweep_started, sweep_started}
 use Rattle.commands.proofs.scenario.on_scenario.Goals as goal
 
 pub returns-in-TracedRun-clause-cause : goal.returns-in-TracedRun-clause-cause
@@ -19,6 +19,16 @@ returns-in-Explore-clause-cause g c =
 
 pub returns-in-Sweep-clause-thread : goal.returns-in-Sweep-clause-thread
 returns-in-Sweep-clause-thread g c = sweep_started _ c.args.scenario.now _ _ _ c.sweep.result c.sweep.ensures.left
+
+pub returns-in-ClaimedSweep-clause-thread : goal.returns-in-ClaimedSweep-clause-thread
+returns-in-ClaimedSweep-clause-thread g c =
+    claimed_sweep_started _ c.args.scenario.now c.in-ClaimedSweep.options _ _ c.claimed_sweep.result
+    c.claimed_sweep.ensures.left
+
+pub returns-in-ClaimedExplore-clause-thread : goal.returns-in-ClaimedExplore-clause-thread
+returns-in-ClaimedExplore-clause-thread g c =
+    claimed_explore_started _ c.args.scenario.now c.in-ClaimedExplore.options _ _ c.claimed_explore.result
+    c.claimed_explore.ensures.left
 
 pub returns-in-TracedRun-clause-thread : goal.returns-in-TracedRun-clause-thread
 returns-in-TracedRun-clause-thread g c =

@@ -10,6 +10,6 @@ returns-in-Err-At-clause-left g c =
       at.error,
       at.line,
       at.column,
-      gives_line _ Refused c.refused.result _ _ c.give.result c.refused.ensures.text
-          c.refused.ensures.ending c.refused.ensures.fault c.give.ensures.left,
+      gives_line _ Refused c.refused_claims.result _ _ c.give.result c.refused_claims.ensures.text
+          c.refused_claims.ensures.ending c.refused_claims.ensures.fault c.give.ensures.left,
     )

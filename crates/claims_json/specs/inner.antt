@@ -1,0 +1,2 @@
+-- What proofs and private contracts alone cite.
+pub mod Counting

@@ -1,0 +1,32 @@
+//! Prints verdicts on properties and their answers as lines of JSON (docs/PROPERTIES.md, "JSON").
+//!
+//! - `claims_lines` returns a line for each pulse, then a line for each property.
+//!
+//! ```
+//! use claims_json::claims_lines;
+//! use properties::{PropertyVerdict, PulseClaims};
+//! use property_text::read_properties;
+//!
+//! let words = [String::from_str(rt.alloc(), "clock")?];
+//! let text = b"always p.clock == q.clock\n";
+//! let properties = read_properties(rt.alloc(), &words, text).map_err(|_| "no properties")?;
+//!
+//! let mut verdicts = Vec::new(rt.alloc());
+//! verdicts.push(PropertyVerdict::Violated {
+//!     first: 0,
+//!     second: 2,
+//! })?;
+//! let pulses = [PulseClaims { pulse: 3, verdicts }];
+//! let text = claims_lines(rt.alloc(), &properties, &pulses)?;
+//! let lines = text.as_str();
+//! assert!(rt; lines.starts_with("{\"claims\":[\"no\"],\"pulse\":3}\n"));
+//! assert!(rt; lines.ends_with("\"line\":1,\"nodes\":[0,2],\"violated\":1}\n"));
+//! ```
+#![tactic(auto)]
+
+mod counts;
+mod lines;
+mod properties_told;
+mod pulses_told;
+
+pub use lines::claims_lines;
