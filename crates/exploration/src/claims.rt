@@ -89,8 +89,8 @@ fn skipped_pulses(form: Form, looks_back: bool) -> u32
     }
 }
 
-/// Returns how many first pulses a property leaves out, if a later pulse violates it: `eventually always` has no such
-/// pulse.
+/// Returns after how many first pulses a single pulse can violate a property: `eventually always` has no such pulse. It
+/// steers the search for a counterexample, and nothing is promised of it.
 pub fn safety_skip(property: &Property) -> Option<u32> {
     let form = property.form;
     match form {
