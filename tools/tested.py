@@ -4,10 +4,13 @@
 A file crates/NAME/tested/BUG.edit has the form of those in must-fail/ (docs/DEVELOPING.md, "A must-fail edit"), below a
 line that says what has to find the bug: `found by: tools/check_rows.py rows/sweep.txt`, `found by: rt try NAME --test`.
 For each bug the files that git names are copied to a folder, and the copy is changed. The program is built there without
-a proof, which takes a minute or two, and the command is run in the copy: a script of tools/ on that program, or the
-tests of a crate. The bug is found if the command fails. Before a command counts, it has to pass in a copy without a bug.
+a proof, which takes some minutes on one processor, and the command is run in the copy: a script of tools/ on that
+program, or the tests of a crate. The bug is found if the command fails. Before a command counts, it has to pass in a
+copy without a bug.
 
   --read             builds nothing: each bug names a script that is there, a file, and texts that stand once in it
+  --jobs N           builds N copies at once, with 5 GB of memory each; scripts run one after another, since some of them
+                     measure time
 """
 import argparse
 import os
@@ -18,6 +21,8 @@ import shutil
 import subprocess
 import sys
 import tempfile
+import threading
+from concurrent.futures import ThreadPoolExecutor
 
 sys.dont_write_bytecode = True
 from mistakes import TOP, first_error, mistakes_of
@@ -103,28 +108,38 @@ class Trial:
 
     def __init__(self, room):
         self.unchanged, self.ran = Copy(pathlib.Path(room) / "unchanged"), {}
+        self.asking, self.running = threading.Lock(), threading.Lock()
+
+    def failure_in(self, copy, command):
+        """What the command says if it fails in a copy, whose program is built beside others, and nothing if it passes."""
+        if is_of_tests(command):
+            return copy.fails(command)
+        copy.program()
+        with self.running:
+            return copy.fails(command)
 
     def failure_without(self, command):
         """What the command says in a copy without a bug if it fails there, and nothing if it passes."""
-        if command not in self.ran:
-            try:
-                self.ran[command] = self.unchanged.fails(command)
-            except Unbuilt as why:
-                self.ran[command] = str(why)
-        return self.ran[command]
+        with self.asking:
+            if command not in self.ran:
+                try:
+                    self.ran[command] = self.failure_in(self.unchanged, command)
+                except Unbuilt as why:
+                    self.ran[command] = str(why)
+            return self.ran[command]
 
     def verdict(self, bug):
         """Whether the bug is found, and a word on it."""
         command, texts = command_of(bug), {}
-        failure = self.failure_without(command)
-        if failure:
-            return False, f"NOT TRIED ({shlex.join(command)} fails without the bug: {failure})"
         bug.apply(texts)
         with tempfile.TemporaryDirectory() as folder:
             try:
-                said = Copy(folder, bug.crate, texts).fails(command)
+                said = self.failure_in(Copy(folder, bug.crate, texts), command)
             except Unbuilt as why:
                 return False, f"CAN'T BE BUILT ({why})"
+        failure = self.failure_without(command)
+        if failure:
+            return False, f"NOT TRIED ({shlex.join(command)} fails without the bug: {failure})"
         return (True, f"found ({said})") if said else (False, f"NOT FOUND by {shlex.join(command)}")
 
 
@@ -139,13 +154,11 @@ def read(wanted):
     return bugs, faults
 
 
-def try_all(bugs):
-    """Tries the bugs, and prints a line for each. Answers whether all are found."""
+def try_all(bugs, jobs):
+    """Tries the bugs, so many at once, and prints a line for each. Answers whether all are found."""
     count = 0
-    with tempfile.TemporaryDirectory() as room:
-        trial = Trial(room)
-        for bug in bugs:
-            is_found, word = trial.verdict(bug)
+    with tempfile.TemporaryDirectory() as room, ThreadPoolExecutor(jobs) as pool:
+        for bug, (is_found, word) in zip(bugs, pool.map(Trial(room).verdict, bugs)):
             count += is_found
             print(f"{bug.crate}/{bug.name}: {word}", flush=True)
     print(f"tested: {count} of {len(bugs)} found")
@@ -155,13 +168,14 @@ def try_all(bugs):
 def main(words):
     parser = argparse.ArgumentParser(description=__doc__, formatter_class=argparse.RawDescriptionHelpFormatter)
     parser.add_argument("--read", action="store_true")
+    parser.add_argument("--jobs", type=int, choices=range(1, 65), default=1, metavar="N")
     parser.add_argument("wanted", nargs="*", metavar="CRATE[/BUG]")
     options = parser.parse_args(words)
     bugs, faults = read(options.wanted)
     if faults or options.read:
         print(*faults, f"tested: {len(bugs)} read, {len(faults)} can't be tried", sep="\n")
         return 1 if faults or not bugs else 0
-    return 0 if bugs and try_all(bugs) else 1
+    return 0 if bugs and try_all(bugs, options.jobs) else 1
 
 
 if __name__ == "__main__":
