@@ -1,92 +1,109 @@
-//! Closed and abandoned pulses.
-use super::benches::{
-    Plan, abandoned_pulse, assert_clocks, assert_mail, assert_told, bench_of, clocks_of, close,
-    open, pulse, refused_close, run_all, stage,
-};
-use bench_core::{CLOCKS_DIFFER, CloseError};
+//! Pulses of a shared bench.
+use super::gates::{Counting, Meeting};
+use super::setup::{ONES, Setup};
+use super::shared::{Shared, SharedTest, run_test};
+use bench_core::PulseRecord;
+use bench_engine::{EngineError, MAX_WORKERS, Open, WorkError, run_events};
+use std::alloc::Global;
+use std::process::Abort;
+use std::sync::Wait;
+use std::sync::ledger::Ledger;
 use std::test::Fail;
+use std::thread::Threads;
 
-/// The mail of four nodes, of which the first sent this to all.
-fn mail_of_first(number: u32) -> [Option<u32>; 16] {
-    let mut mail = [None; 16];
-    for slot in &mut mail[..4] {
-        *slot = Some(number);
+/// Compares pulses, each with another number of workers, with the records of a run.
+#[derive(Drop)]
+struct Compared {
+    records: Vec<PulseRecord>,
+}
+
+impl SharedTest for Compared {
+    fn run<B: Ledger, C: Ledger, R: Abort + Threads + Wait + Sync>(
+        &self,
+        rt: &R,
+        alloc: Global,
+        shared: Shared<B, C>,
+    ) -> Result<(), Fail> {
+        let mut shared = shared;
+        for workers in 1..=MAX_WORKERS {
+            let record = self.records.get(workers as usize - 1);
+            let record = record.ok_or("no record")?;
+            let gate = Counting::new(alloc, 100)?;
+            let told = shared.pulse(rt, alloc, &gate, workers)?;
+            assert_same(rt, &told, record);
+            gate.assert_entered(rt, workers, 1);
+        }
+        Ok(())
     }
-    mail
 }
 
-#[test]
-fn a_load_waits_for_the_next_opening(rt: HostRuntime) -> Result<(), Fail> {
-    let alloc = rt.alloc();
-    let mut bench = bench_of(alloc, 4, 1, 8)?;
-    stage(alloc, &mut bench, Plan::Clock(0))?;
-    let tasks = open(alloc, &mut bench, &[0; 4])?;
-    stage(alloc, &mut bench, Plan::Say(0, 5))?;
-    let dones = run_all(alloc, tasks)?;
-    let record = close(alloc, &mut bench, dones)?;
-    assert_told(
-        &rt,
-        &record,
-        [1, 0, 0, 0],
-        &[Some(0), None, None, None],
-        &[false; 4],
-    );
-    assert_mail(&rt, alloc, &bench, &mail_of_first(0))?;
-    let record = pulse(alloc, &mut bench, &[0; 4])?;
-    assert_told(&rt, &record, [2, 0, 0, 0], &[None; 4], &[false; 4]);
-    assert_mail(&rt, alloc, &bench, &mail_of_first(5))?;
-    assert_eq!(rt; bench.history().len(), 6);
-    Ok(())
+fn assert_same(rt: &impl Abort, told: &PulseRecord, record: &PulseRecord) {
+    assert_eq!(rt; told.row, record.row);
+    assert_eq!(rt; told.clocks.as_slice(), record.clocks.as_slice());
+    assert_eq!(rt; told.settled.as_slice(), record.settled.as_slice());
+    assert_eq!(rt; told.steps, record.steps);
+    assert_eq!(rt; told.agree, record.agree);
 }
 
+/// A record of another bench's pulse keeps every clause, and fails here.
 #[test]
-fn one_node_counts(rt: HostRuntime) -> Result<(), Fail> {
-    let alloc = rt.alloc();
-    let mut bench = clocks_of(alloc, 1, 0, 2)?;
-    let table = [
-        (0, 18, [1, 0, 0, 0], false),
-        (1, 23, [2, 1, 0, 1], true),
-        (0, 21, [3, 0, 1, 1], true),
-        (1, 22, [4, 1, 0, 1], true),
-    ];
-    for (clock, steps, row, settled) in table {
-        let record = pulse(alloc, &mut bench, &[1])?;
-        assert_told(&rt, &record, row, &[Some(clock)], &[settled]);
-        assert_eq!(rt; record.steps, steps);
-        assert!(rt; record.agree);
-        assert_clocks(&rt, &bench, &[clock]);
+fn pulses_tell_what_a_run_tells(rt: HostRuntime) -> Result<(), Fail> {
+    let four = Setup::four()?;
+    let events = four.events(rt.alloc(), &[ONES; MAX_WORKERS as usize])?;
+    let run = run_events(&rt, rt.alloc(), &Open, 1, four.shape, four.rule, events)?;
+    assert_eq!(rt; run.records.len(), MAX_WORKERS as usize);
+    let records = run.records;
+    run_test(&rt, rt.alloc(), 1, &Compared { records })
+}
+
+/// For each number of workers, runs a pulse whose gate refuses the last to enter, and then one whose gate is open.
+struct ShutThenOpen;
+
+impl SharedTest for ShutThenOpen {
+    fn run<B: Ledger, C: Ledger, R: Abort + Threads + Wait + Sync>(
+        &self,
+        rt: &R,
+        alloc: Global,
+        shared: Shared<B, C>,
+    ) -> Result<(), Fail> {
+        let mut shared = shared;
+        for workers in 1..=MAX_WORKERS {
+            let shut = Counting::new(alloc, workers - 1)?;
+            let refusal = shared.pulse(rt, alloc, &shut, workers).err();
+            assert_eq!(rt; refusal, Some(EngineError::Work(WorkError::GateShut)));
+            let record = shared.pulse(rt, alloc, &Open, workers)?;
+            assert_eq!(rt; record.row.pulse, workers);
+        }
+        let finished = shared.finish()?;
+        let entries = 4 + 4 * MAX_WORKERS as usize;
+        assert_eq!(rt; finished.history().len(), entries);
+        assert_eq!(rt; finished.closes(), MAX_WORKERS as usize);
+        Ok(())
     }
-    Ok(())
 }
 
 #[test]
-fn an_abandoned_pulse_keeps_its_changes(rt: HostRuntime) -> Result<(), Fail> {
-    let alloc = rt.alloc();
-    let mut bench = bench_of(alloc, 4, 1, 8)?;
-    stage(alloc, &mut bench, Plan::Corrupt(0, 3, 0))?;
-    abandoned_pulse(alloc, &mut bench, &[0; 4])?;
-    assert_clocks(&rt, &bench, &[3, 0, 0, 0]);
-    assert_eq!(rt; bench.history().len(), 3);
-    assert_mail(&rt, alloc, &bench, &[None; 16])?;
-    let (_, refusal) = refused_close(alloc, &mut bench, Vec::new(alloc))?;
-    assert_eq!(rt; refusal, CloseError::NotOpen);
-    assert_eq!(rt; bench.abandon(), Err(CloseError::NotOpen));
-    Ok(())
+fn gate_shut_on_a_shared_bench(rt: HostRuntime) -> Result<(), Fail> {
+    run_test(&rt, rt.alloc(), 1, &ShutThenOpen)
 }
 
-#[test]
-fn clocks_differ_where_too_many_may_be_faulty(rt: HostRuntime) -> Result<(), Fail> {
-    let alloc = rt.alloc();
-    let mut bench = clocks_of(alloc, 2, 1, 8)?;
-    let table = [
-        ([0, 1], [1, 0, 0, 0], [0, 0], false, true),
-        ([0, 1], [2, 1, 1, 2], [0, 1], true, true),
-        ([1, 1], [3, CLOCKS_DIFFER, 0, 2], [1, 2], true, false),
-    ];
-    for (coins, row, clocks, settled, agree) in table {
-        let record = pulse(alloc, &mut bench, &coins)?;
-        assert_told(&rt, &record, row, &clocks.map(Some), &[settled; 2]);
-        assert_eq!(rt; record.agree, agree);
+/// Runs a pulse in which two workers meet.
+struct Met;
+
+impl SharedTest for Met {
+    fn run<B: Ledger, C: Ledger, R: Abort + Threads + Wait + Sync>(
+        &self,
+        rt: &R,
+        alloc: Global,
+        shared: Shared<B, C>,
+    ) -> Result<(), Fail> {
+        let mut shared = shared;
+        shared.pulse(rt, alloc, &Meeting::new(), 2)?;
+        Ok(())
     }
-    Ok(())
+}
+
+#[test]
+fn workers_meet_on_a_shared_bench(rt: HostRuntime) -> Result<(), Fail> {
+    run_test(&rt, rt.alloc(), 1, &Met)
 }

@@ -1,5 +1,0 @@
-//! The tests of `bench_shared`.
-#![tactic(auto)]
-
-#[cfg(test)]
-mod tests;

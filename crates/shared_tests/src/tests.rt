@@ -1,5 +1,0 @@
-mod benches;
-mod boards;
-mod ends;
-mod refusals;
-mod results;
