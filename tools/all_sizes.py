@@ -2,7 +2,8 @@
 """Decides claims about a rule for all n, f and M by z3: tools/all_sizes.py [OPTIONS] RULE CLAIMS
 
 RULE is a clock as a rule (docs/RULES.md). CLAIMS has its steps: what all correct nodes are before a pulse, and what
-they are after it, whatever at most f Byzantine nodes send (docs/ALL_SIZES.md). Each step gets one answer:
+they are after it, whatever at most f Byzantine nodes send (docs/ALL_SIZES.md). A property (docs/PROPERTIES.md) is a step
+from any state to where its term holds. Each step gets one answer:
 
   holds for all n, f, M (by z3)   with the sizes of a bench on which the step begins
   refuted                         with the first n, f and M on which it fails, from small ones up
@@ -20,7 +21,7 @@ import sys
 
 sys.dont_write_bytecode = True
 from certificates import NotFound, certificate_of
-from claims_text import note_of, read_claims
+from claims_text import ALWAYS, note_of, read_claims
 from quorum_formula import OutsideCounts, verdict
 from rule_text import MAX_FRAMES, Reader, Refused
 from sketches import holes_of, sketches
@@ -31,6 +32,7 @@ from symbolic import SAT, UNSAT, NoSolver, Solver
 HOLDS, REFUTED, UNDECIDED = "holds for all n, f, M (by z3)", "refuted", "not decided"
 STATUS = {HOLDS: 0, REFUTED: 3, UNDECIDED: 4}
 ERROR, NO_SOLVER = 2, 4
+OUTSIDE = "line {}, column {} of the claims: a property for all sizes compares words, sizes and numbers alone"
 
 
 @dataclasses.dataclass
@@ -41,21 +43,36 @@ class Answer:
     case: object = None
     reason: str = ""
 
+    def sizes(self):
+        return ", ".join(f"{name} = {it}" for name, it in self.case.names.items())
+
     def __str__(self):
-        sizes = self.case and ", ".join(f"{name} = {it}" for name, it in self.case.names.items())
-        rest = {HOLDS: f"; it begins at {sizes}", REFUTED: f" at {sizes}", UNDECIDED: ": "}
-        return f"{self.kind}{rest[self.kind]}{self.reason}"
+        if self.kind == UNDECIDED:
+            return f"{self.kind}: {self.reason}"
+        begins = "; it begins" if self.kind == HOLDS else ""
+        return f"{self.kind}{begins} at {self.sizes()}{self.reason}"
 
 
 def answer(solver, rule, claims, step, most):
     """The answer to a step; `most` is the greatest number of nodes of a bench that is tried."""
+    if step.uncovered:
+        return Answer(UNDECIDED, reason=OUTSIDE.format(*step.uncovered))
     try:
         begun = beginning(solver, rule, claims, step, most)
         if begun is None:
-            return Answer(UNDECIDED, reason=f"no state meets its left side and 'if' on a bench of up to {most} nodes")
-        return decided(solver, rule, claims, step, most) or Answer(HOLDS, begun)
+            missing = "sizes meet 'assume'" if step.form else "state meets its left side and 'if'"
+            return Answer(UNDECIDED, reason=f"no {missing} on a bench of up to {most} nodes")
+        return of_form(step, decided(solver, rule, claims, step, most) or Answer(HOLDS, begun))
     except OutsideCounts as why:
         return Answer(UNDECIDED, reason=str(why))
+
+
+def of_form(step, found):
+    """The answer to a step or a property: `eventually always` and `within` allow that the term fails after a pulse."""
+    if found.kind != REFUTED or step.form in (None, ALWAYS):
+        return found
+    where = f"its term fails after a pulse at {found.sizes()}, which refutes only always"
+    return Answer(UNDECIDED, reason=f"{where}{found.reason}")
 
 
 def decided(solver, rule, claims, step, most):
@@ -100,7 +117,7 @@ def parsed(words):
         "--hole", type=hole_of, action="append", default=[], dest="holes", metavar="NAME=TERM,..",
         help="terms to try for ?NAME in the rule [default: sums of n, f and 1]",
     )
-    parser.add_argument("--line", type=int, help="decide the step in this line of the claims alone")
+    parser.add_argument("--line", type=int, help="decide the step or property in this line of the claims alone")
     parser.add_argument("--nodes", type=int, default=5, help="the most nodes of a refutation [default: 5]")
     parser.add_argument("--seconds", type=int, default=20, help="time limit of a formula [default: 20]")
     options = parser.parse_args(words)
@@ -148,7 +165,7 @@ def chosen_steps(options, claims):
     steps = [it for it in claims.steps if options.line in (None, it.line)]
     if not steps:
         lines = ", ".join(str(it.line) for it in claims.steps)
-        end(f"all_sizes.py: --line {options.line} has no step; steps are in the lines {lines}")
+        end(f"all_sizes.py: --line {options.line} has no step and no property; these are in the lines {lines}")
     return steps
 
 
@@ -213,7 +230,8 @@ def decide_sketches(solver, options, text, claims):
         step, found = first_that_fails(solver, rule, claims, steps, options.nodes)
         kinds.append(found.kind if found else HOLDS)
         shown = ", ".join(f"?{name} = {term}" for name, term in terms.items())
-        print(f"{shown}: {f'line {step.line} {found}' if found else f'all {len(steps)} steps hold'}", flush=True)
+        every = f"all {len(steps)} steps hold" if len(steps) > 1 else f"line {steps[0].line} holds"
+        print(f"{shown}: {f'line {step.line} {found}' if found else every}", flush=True)
         if options.scenario and kinds[-1] == REFUTED:
             write_scenario(options.scenario / f"{number}.toml", whole, rule, claims, (step, found.case))
     right = kinds.count(HOLDS)

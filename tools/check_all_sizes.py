@@ -1,11 +1,12 @@
 #!/usr/bin/env python3
-"""Tries tools/all_sizes.py on the claims of examples/claims/: check_all_sizes.py [PROGRAM]
+"""Tries tools/all_sizes.py on the claims of examples/claims/ and on properties: check_all_sizes.py [PROGRAM]
 
 Each step must get its answer, and a step of a wrong rule or claim must be refuted. The scenario of each refutation is
 run: the step must begin in its pulse 1, and fail in pulse 2, by the lines of `run --json`. Pulses of the rules are
 drawn, and made by tools/rule_meaning.py. None may break a step that holds for all sizes. Some must be among the
-rule's paths, and meet the formulas that z3 is given. Claims with an error must be refused where it is. Without z3 the
-tool must name the package; without root the rest is then left out. PROGRAM is as for check_rows.py.
+rule's paths, and meet the formulas that z3 is given. Claims with an error must be refused where it is, and properties
+where `run --claims` refuses them. A drawn property that is covered must be true in whole numbers if it is in 32 bits.
+Without z3 the tool must name the package; without root the rest is then left out. PROGRAM is as for check_rows.py.
 """
 import itertools
 import json
@@ -20,16 +21,19 @@ import tempfile
 import tomllib
 
 sys.dont_write_bytecode = True
-from all_sizes import HOLDS, REFUTED, answer
+from all_sizes import HOLDS, OUTSIDE, REFUTED, UNDECIDED, answer
 from built_program import TOP, named_program, on_all_processors, tell
 from built_program import answer as told_by
-from claims_text import ClaimTerms, admits, read_claims
+from check_properties import WRONG as WRONG_PROPERTIES
+from check_properties import term as drawn_term
+from claims_text import SIZES, ClaimTerms, admits, is_in, read_claims
 from quorum_formula import Pair, paths
-from rule_text import NONE, Reader
+from rule_text import MAX_FRAMES, NONE, Reader, Refused
 from small_benches import PULSE, Case, RunningNode, pairs_outside, scenario_of
 from symbolic import SAT, Formula, Solver, chosen, compared, implied, total
 
 SEED, DRAWN, BEGUN, ASKED, NODES = 9669, 2000, 100, 6, 5
+TERMS, PAIRS, WORDS = 2000, 5, ["clock", "mark"]
 # z3 has far more time than it needs, so that other work on the machine changes no answer.
 SECONDS = 300
 EXAMPLES = {
@@ -38,7 +42,10 @@ EXAMPLES = {
     "greatest": [REFUTED] * 2 + [HOLDS] * 3,
     "two_coins": [REFUTED] + [HOLDS] * 5,
     "middle": [HOLDS],
+    "agreement": [HOLDS],
 }
+# The rule and the claims of an example, if they aren't those of its name.
+FILES = {"agreement": ("rules/clock.rule", "properties/agreement.claims")}
 # An edit of a rule or its claims, and the number of a step that it makes wrong.
 WRONG = [
     ("clock", "n > 3 * f", "n > 2 * f", 0),
@@ -59,24 +66,67 @@ WRONG = [
     ("two_coins", "zeros >= n - f", "zeros >= n - f - 1", 1),
     ("two_coins", "coin c", "coin 1 - c", 3),
     ("middle", "n - 1 - f", "n - f", 0),
+    ("agreement", "n > 3 * f", "n >= 3 * f", 0),
+    ("agreement", "support < n - f:", "support < n - f - 1:", 0),
+    ("agreement", "p.clock == q.clock", "p.clock != q.clock", 0),
+]
+# Properties of the clock with more than 3f nodes, and the answer to each.
+BEGUN_AT, FAILS_AT = f"{HOLDS}; it begins at n = 4, f = 1, M = 2", "at n = 2, f = 0, M = 2"
+PROPERTIES = [
+    ("always p.mark < 2 and p.clock < M and not (p.clock and not p.mark)", BEGUN_AT),
+    ("eventually always p.clock == 0 or q.clock == 0 or p.clock == q.clock", BEGUN_AT),
+    ("within 0 2 > p.mark and none != f", BEGUN_AT),
+    ("always p.clock == q.clock", f"{REFUTED} {FAILS_AT}"),
+    ("always p.mark", f"{REFUTED} at n = 1, f = 0, M = 2"),
+    ("eventually always p.clock == q.clock", f"{UNDECIDED}: its term fails after a pulse {FAILS_AT}, which refutes only always"),
+    ("within 3 p.clock == q.clock", f"{UNDECIDED}: its term fails after a pulse {FAILS_AT}, which refutes only always"),
+    ("always p.clock <= q.clock + 1", f"{UNDECIDED}: {OUTSIDE.format(9, 27)}"),
+    ("always p.before.clock == 0 or p.clock % 2 == 1", f"{UNDECIDED}: {OUTSIDE.format(10, 8)}"),
+    ("within 1 p.clock or (1 if q.clock else f - 1)", f"{UNDECIDED}: {OUTSIDE.format(11, 24)}"),
+    ("always n > 0 and p.me == q.me", f"{UNDECIDED}: {OUTSIDE.format(12, 18)}"),
+    ("always p.mark == (q.clock != 0)", f"{UNDECIDED}: {OUTSIDE.format(13, 27)}"),
+    ("always p.mark == (not q.clock)", f"{UNDECIDED}: {OUTSIDE.format(14, 19)}"),
+    ("always p.clock -1", f"{UNDECIDED}: {OUTSIDE.format(15, 16)}"),
 ]
 # Claims with an error, the error, and its note without the place.
 FAULTY = [
-    ("asume n > f", "Expected line 1 column 1", 'asume n > f; expected "assume", "set" or "step", found "asume"'),
+    ("asume n > f", "Expected line 1 column 1",
+     'asume n > f; expected "assume", "set", "step", "always", "eventually" or "within", found "asume"'),
     ("set A: p.clok", "UnknownName line 1 column 10", "set A: p.clok; unknown name clok; did you mean clock?"),
     ("set A: p == 1", "Expected line 1 column 8", "set A: p == 1; write a word of the node, such as p.clock"),
     ("set A: me", "Expected line 1 column 8", 'set A: me; "me" isn\'t part of claims: write p.clock, p.sent'),
     ("set A[c]: c\nstep any -> A", "Expected line 2 column 13", "step any -> A; the set is A[c]"),
     ("set As: 1\nstep As -> A", "UnknownName line 2 column 12", "step As -> A; unknown set A; did you mean As?"),
     ("set A: 1\nset A: 2", "NameTwice line 2 column 5", "set A: 2; A has a meaning already"),
-    ("assume n >\nset A: 1", "Expected line 2 column 1",
-     "expected a term, such as a number or a name at the end of line 1"),
+    ("assume n >  # nodes\nset A: 1", "Expected line 1 column 20",
+     "assume n >; expected a term, such as a number or a name, found end of line"),
+    ("set A: (p.clock", "Expected line 1 column 16", 'set A: (p.clock; expected ")", found end of text'),
+    ("assume p.clock > 1", "Expected line 1 column 8", "assume p.clock > 1; only sets and properties speak of p and q"),
     ("set A: sorted[0] j: 1", "Expected line 1 column 8",
      "set A: sorted[0] j: 1; sorted isn't part of claims: they have p.clock, p.sent"),
     ("assume n $", "BadCharacter line 1 column 10",
      "assume n $; no token begins with this byte, or a letter follows a number"),
     ("assume n", "Expected line 1 column 9",
-     "assume n; no step is claimed: expected a line such as step any -> Agree"),
+     "assume n; no step and no property: expected a line such as step any -> Agree"),
+    ("assume n\n", "Expected line 2 column 1", "no step and no property: expected a line such as step any -> Agree"),
+    ("assume n > f\nalways p.clok == 0", "UnknownName line 2 column 10",
+     "always p.clok == 0; unknown name clok; did you mean clock?"),
+    ("always p.sent == 0", "UnknownName line 1 column 10", "always p.sent == 0; unknown name sent"),
+    ("always mail[0] == 0", "NotCovered line 1 column 8",
+     'always mail[0] == 0; "mail" isn\'t part of properties: write p.clock, p.me'),
+    ("within 1000001 p.clock", "OutOfRange line 1 column 8",
+     "within 1000001 p.clock; a number is at most 4294967295, that of within at most 1000000, and a name has at most 32 "
+     "letters"),
+    ("  within p.clock", "Expected line 1 column 10", 'within p.clock; expected a number of pulses, found "p"'),
+    ("step any -> any\neventually p.clock", "Expected line 2 column 12",
+     'eventually p.clock; expected "always", found "p"'),
+]
+# Properties that `run --claims` refuses, but for its limits.
+READ_ALIKE = [it for it in WRONG_PROPERTIES if not it[1].startswith("TooLong")]
+# Rules with a word that claims or properties have for something else: the rule, the claims and the error.
+TAKEN = [
+    ("state sent", "step any -> any", "NameTwice line 1 column 1"),
+    ("state before", "assume n > f\n\n  within 4 p.clock == 0", "NameTwice line 3 column 3"),
 ]
 
 
@@ -84,8 +134,9 @@ class Example:
     """A rule of examples/rules/ with its claims, or with an edit of one of them."""
 
     def __init__(self, name, old="", new=""):
-        self.name, self.text = name, (TOP / f"examples/rules/{name}.rule").read_bytes()
-        claims = (TOP / f"examples/claims/{name}.claims").read_bytes()
+        paths_of_name = f"rules/{name}.rule", f"claims/{name}.claims"
+        self.name = name
+        self.text, claims = ((TOP / "examples" / it).read_bytes() for it in FILES.get(name, paths_of_name))
         if old and (old.encode() in self.text) == (old.encode() in claims):
             raise ValueError(f"{name}: {old} isn't in one of rule and claims alone")
         self.text, claims = self.text.replace(old.encode(), new.encode()), claims.replace(old.encode(), new.encode())
@@ -263,14 +314,48 @@ def error_faults():
             got = tool([rule, str(path)])
             if got != wanted:
                 yield f"{text!r}: {got} in place of {wanted}"
-        word = pathlib.Path(room, "rule")
-        word.write_text("state sent\nsend clock\n", encoding="utf-8")
-        got = tool([str(word), str(TOP / "examples/claims/greatest.claims")])
-        if got[:2] != (2, "refused claims NameTwice line 2 column 1\n"):
-            yield f"a rule with a word named sent: {got}"
+        for state, text, name in TAKEN:
+            pathlib.Path(room, "rule").write_text(f"{state}\nsend clock\n", encoding="utf-8")
+            pathlib.Path(room, "claims").write_text(text, encoding="utf-8")
+            got = tool([str(pathlib.Path(room, it)) for it in ("rule", "claims")])
+            if got[:2] != (2, f"refused claims {name}\n"):
+                yield f"a rule with {state}: {got}"
         without = tool([rule, str(TOP / "examples/claims/clock.claims")], room)
         if without != (4, "", "all_sizes.py: z3 isn't on the PATH: apt-get install z3\n"):
             yield f"without z3: {without}"
+
+
+def reading_faults():
+    """Properties that `run --claims` refuses are refused by the same error at the same place."""
+    sys.setrecursionlimit(MAX_FRAMES)
+    for text, wanted in READ_ALIKE:
+        try:
+            read_claims(text.encode(), WORDS)
+            yield f"{text!r} is read"
+        except Refused as why:
+            if not str(why).startswith(f"refused claims {wanted}"):
+                yield f"{text!r}: {why} in place of {wanted}"
+
+
+def covered_faults():
+    """Drawn properties that are covered, in whole numbers and in those of 32 bits that check_properties.py computes."""
+    dice, covered = random.Random(SEED), 0
+    number = lambda: dice.choice([0, 1, 2, 3, 7, NONE - 1, NONE])
+    for _ in range(TERMS):
+        sizes = {it: number() for it in SIZES}
+        text, value, _ = drawn_term(dice, WORDS, sizes, dice.randrange(4))
+        claims = read_claims(f"always {text}".encode(), WORDS)
+        step = claims.steps[0]
+        if step.uncovered:
+            continue
+        covered += 1
+        for _pair in range(PAIRS):
+            pair = [(0, [number() for _ in WORDS], []) for _ in "pq"]
+            is_true = is_in(claims, step.after, sizes, *(dict(zip(WORDS, after)) for _, after, _ in pair))
+            if is_true != (value(pair) != 0):
+                yield f"{step.text} of {pair} and {sizes} is {is_true} in whole numbers"
+    if covered < TERMS // 20:
+        yield f"{covered} of {TERMS} drawn properties are covered"
 
 
 def has_solver():
@@ -286,6 +371,7 @@ def command_faults():
         if got != (3, "line 6: any -> Agree\n  refuted at n = 4, f = 1, M = 2\n", "") or not path.is_file():
             yield f"all_sizes.py --line 6: {got}"
         yield from sketch_faults(pathlib.Path(room))
+        yield from property_faults(pathlib.Path(room))
 
 
 def sketch_faults(room):
@@ -306,10 +392,26 @@ def sketch_faults(room):
         yield f"a sketch of the clock: {got}, {files}"
 
 
+def property_faults(room):
+    """What the tool prints of properties, and that it writes the first refuted one, and certificates of those that hold."""
+    lines = ["assume n > 3 * f", *(text for text, _answer in PROPERTIES)]
+    (room / "properties").write_text("\n".join(lines), encoding="utf-8")
+    names = [str(TOP / "examples/rules/clock.rule"), str(room / "properties"), "--seconds", str(SECONDS)]
+    files = ["--scenario", str(room / "refuted"), "--certificate", str(room / "certificates")]
+    told = "".join(f"line {line}: {text}\n  {answered}\n" for line, (text, answered) in enumerate(PROPERTIES, 2))
+    got = tool([*names, *files])
+    if got != (3, told, ""):
+        yield f"properties: {got} in place of {told}"
+        return
+    scenario, certificates = ((room / it).read_text(encoding="utf-8") for it in ("refuted", "certificates"))
+    if lines[4] not in scenario or re.findall(r"(?m)^step (\d+)$", certificates) != ["2", "3", "4"]:
+        yield f"files of properties: {scenario}{certificates}"
+
+
 def main():
     program = named_program()
-    found = list(error_faults())
-    counts = {"claims with an error": len(FAULTY)}
+    found = [*error_faults(), *reading_faults(), *covered_faults()]
+    counts = {"claims with an error": len(FAULTY) + len(TAKEN) + len(READ_ALIKE), "terms": TERMS}
     if not has_solver():
         print("check_all_sizes: left out: z3 isn't installed")
         return tell("check_all_sizes", counts, found)
@@ -321,7 +423,8 @@ def main():
     found += command_faults()
     found += on_all_processors(answer_faults(program), asked)
     found += on_all_processors(drawn_faults, drawn)
-    return tell("check_all_sizes", counts | {"steps": len(asked), "steps with drawn pulses": len(drawn)}, found)
+    counts |= {"steps": len(asked), "steps with drawn pulses": len(drawn), "properties": len(PROPERTIES)}
+    return tell("check_all_sizes", counts, found)
 
 
 if __name__ == "__main__":

@@ -4,9 +4,10 @@
 Of each example (examples/properties/) and of drawn properties on examples, the verdicts are judged here by the memories
 and the settled nodes that `run --json` tells (docs/PROPERTIES.md), with terms that are drawn as trees: their text is for
 the program, their number is computed here. The report before them must be that of `run`, for each number of workers. The
-lines of `--json` must say the same, and the status of `--check` must be that of the answers. Each wrong text must be
-refused where its first error is. Each row of `sweep --claims` must be that of the answers of `run --claims` on the
-scenario with its key.
+lines of `--json` must say the same, and the status of `--check` must be that of the answers. Drawn lines of `assume` that
+the scenario meets change nothing, and the first one that it doesn't meet is where the text is refused. Each wrong text
+must be refused where its first error is. Each row of `sweep --claims` must be that of the answers of `run --claims` on
+the scenario with its key.
 """
 import json
 import random
@@ -25,6 +26,7 @@ EXAMPLES = {
     "squad": ("properties/squad.toml", 0),
     "skew": ("properties/skew.toml", 0),
     "clock": ("four_clocks.toml", 0),
+    "agreement": ("four_clocks.toml", 0),
 }
 # Scenarios of the built-in clock and of rules, on which properties are drawn, with the words of the memory.
 SCENARIOS = {
@@ -69,6 +71,36 @@ WRONG = [
     ("always 1\n" * 33, "TooLong line 33 column 1"),
     ("always 1" + " " * 16400 + "== 1\n", "TooLong line 1 column"),
 ]
+# Likewise texts with lines that tools/all_sizes.py reads otherwise.
+WRONG_ASSUMPTIONS = [
+    ("assume n > 3 * f\n", "Expected line 2 column 1"),
+    ("assume\nalways 1\n", "Expected line 1 column 7"),
+    ("assume p.clock > 1\nalways 1\n", "Expected line 1 column 8"),
+    ("always 1\nassume n > f and q.clock == 0\n", "Expected line 2 column 18"),
+    ("assume m > 1\nalways 1\n", "UnknownName line 1 column 8"),
+    ("assume n / 2 > f\nalways 1\n", "NotCovered line 1 column 10"),
+    ("assume n % 2 == 0\nalways 1\n", "NotCovered line 1 column 10"),
+    ("assume n if f else 1\nalways 1\n", "NotCovered line 1 column 10"),
+    ("assume n > 4294967296\nalways 1\n", "OutOfRange line 1 column 12"),
+    ("assume n > $\nalways 1\n", "BadCharacter line 1 column 12"),
+    ("assume n > 1 f\nalways 1\n", "Expected line 1 column 14"),
+    ("assume (n > 1\nalways 1\n", "Expected line 2 column 1"),
+    ("set A: p.clock == 0\nalways 1\n", "Expected line 1 column 1"),
+    ("always 1\nstep any -> any\n", "Expected line 2 column 1"),
+    # An error comes before an assumption that isn't met.
+    ("assume n < 4\nalways p.tick == 0\n", "UnknownName line 2 column 10"),
+    ("assume 1\n" * 40 + "always 1\n" * 33, "TooLong line 73 column 1"),
+]
+# Assumptions that a scenario with four nodes, f = 1 and M = 8 meets, and ones that it doesn't, with the place.
+MET = ["n > 3 * f", "not f == 0 and (n == 4 or 0)", "n - 5 < 0", "M == 8", "none > n * M", "1"]
+UNMET = [
+    ("assume n < 4\nalways 1\n", 1, 8),
+    ("always 1\n  assume   (n >= 1\n  and f != 1)\nassume n < f\n", 2, 12),
+    ("assume n == 4\nwithin 3 p.clock\nassume 4 - n\nassume f > 1\n", 3, 8),
+    ("assume n - 5 >= 0\nalways 1\n", 1, 8),
+    ("assume none * 2 < none\nalways 1\n", 1, 8),
+]
+COMMANDS = [["run"], ["run", "--json", "--check"], ["sweep", "--keys", "1..2"]]
 OPERATIONS = {
     "+": lambda a, b: (a + b) % LIMIT,
     "-": lambda a, b: (a - b) % LIMIT,
@@ -280,7 +312,7 @@ def example(program, name):
     given, report, pulses, sizes = run_of(program, scenario)
     text = (TOP / "examples/properties" / f"{name}.claims").read_text()
     words = SCENARIOS.get(scenario) or ["clock", *re.findall(r"\w+", (re.findall(r"^state (.*)$", given.decode(), re.M) or [""])[0])]
-    lines = [(at, line) for at, line in enumerate(text.splitlines(), 1) if line and not line.startswith("#")]
+    lines = [(at, it) for at, it in enumerate(text.splitlines(), 1) if it and not it.startswith(("#", "assume"))]
     properties = [(at, *read(line, words, sizes)) for at, line in lines]
     wanted = expected(report, pulses, words, properties)
     found = tried(program, name, given, text, wanted)
@@ -293,12 +325,94 @@ def drawn(program, seed):
     given, report, pulses, sizes = run_of(program, scenario)
     words, properties, text = SCENARIOS[scenario], [], ""
     for line in range(1, LINES + 1):
+        if draw.random() < 0.2:
+            text += f"assume {assumption(draw, sizes, True)}\n"
+            continue
         head, first = form(draw)
         shown, value, back = term(draw, words, sizes, draw.randrange(5))
         properties.append((line, f"{head} {shown}", head, first, value, back))
         text += f"{head} {shown}\n"
+    if not properties:
+        return []
     wanted = expected(report, pulses, words, properties)
-    return tried(program, f"{scenario} seed {seed}", given, text, wanted)
+    return tried(program, f"{scenario} seed {seed}", given, text, wanted) + unmet(program, draw, given, text, sizes)
+
+
+def assumption(draw, sizes, is_met):
+    """A term about the sizes that they meet, or that they don't."""
+    while True:
+        shown, value = size_test(draw, sizes, draw.randrange(3))
+        if (value != 0) == is_met:
+            return shown
+
+
+def size_test(draw, sizes, depth):
+    """A term of sizes, as text and as a whole number."""
+    if depth == 0:
+        (left, one), (right, other) = size_sum(draw, sizes), size_sum(draw, sizes)
+        sign = draw.choice(["==", "!=", "<", "<=", ">", ">="])
+        return f"{left} {sign} {right}", OPERATIONS[sign](one, other)
+    if draw.random() < 0.2:
+        shown, value = size_test(draw, sizes, depth - 1)
+        return f"not ({shown})", int(value == 0)
+    sign = draw.choice(["and", "or"])
+    (left, one), (right, other) = (size_test(draw, sizes, depth - 1) for _side in range(2))
+    return f"({left} {sign} {right})", OPERATIONS[sign](one, other)
+
+
+def size_sum(draw, sizes):
+    """A sum of sizes with constant factors, in whole numbers: it may be below 0."""
+    shown, value = "", 0
+    for part in range(draw.randint(1, 3)):
+        sign = draw.choice("+-") if part else "+"
+        factor, name = draw.randrange(8), draw.choice(["n", "f", "M", "none", ""])
+        number = {**sizes, "none": NONE, "": 1}[name]
+        shown += f" {sign} " * bool(part) + (f"{factor} * {name}" if name else f"{factor}")
+        value += factor * number * (1 if sign == "+" else -1)
+    return shown, value
+
+
+def unmet(program, draw, given, text, sizes):
+    """The text with a line that the scenario doesn't meet, which refuses it, and a second one, which is after it."""
+    lines = text.splitlines()
+    at = draw.randrange(len(lines) + 1)
+    indent = " " * draw.randrange(3)
+    lines[at:at] = [f"{indent}assume {assumption(draw, sizes, False)}"]
+    lines += [f"assume {assumption(draw, sizes, False)}"] * draw.randrange(2)
+    return unassumed(program, given, "\n".join(lines), sizes, at + 1, len(indent) + 8)
+
+
+def unassumed(program, given, text, sizes, line, column, commands=COMMANDS):
+    """The differences of the refusal of a text whose assumption at this place isn't met."""
+    numbers = ", ".join(f"{name} = {number}" for name, number in sizes.items())
+    note = f"note: line {line}, column {column} of the claims: the scenario has {numbers}\n"
+    wanted = 2, f"refused claims NotAssumed line {line} column {column}\n", note
+    found = []
+    with tempfile.NamedTemporaryFile("w", suffix=".claims") as file:
+        file.write(text)
+        file.flush()
+        for words in commands:
+            got = answer(program, [*words, "--claims", file.name], given)
+            if (got.status, got.out.decode(), got.err.decode()) != wanted:
+                found.append(f"{' '.join(words)} {text!r}: {got}, wanted {wanted}")
+    return found
+
+
+def assumed(program, case):
+    """A fixed text with assumptions that four clocks don't meet, or that they meet before and after 32 properties."""
+    given, report, pulses, sizes = run_of(program, "four_clocks.toml")
+    if isinstance(case, tuple):
+        return unassumed(program, given, case[0], sizes, *case[1:])
+    words, line = SCENARIOS["four_clocks.toml"], "always p.clock == q.clock"
+    properties = [(at, *read(line, words, sizes)) for at in range(2, 34)]
+    text = f"assume {case}\n" + f"{line}\n" * 32 + f"assume {case}\n"
+    return tried(program, case, given, text, expected(report, pulses, words, properties))
+
+
+def unexplored(program, case):
+    """A fixed text with an assumption that a bench to explore doesn't meet."""
+    given = (TOP / "examples/explore/vote.toml").read_bytes()
+    return unassumed(program, given, case[0], {"n": 4, "f": 1, "M": 2}, *case[1:], [["explore"], ["explore", "--json"]])
 
 
 def cell_of(answered):
@@ -360,9 +474,11 @@ def main():
     trials = [(example, name) for name in EXAMPLES]
     trials += [(drawn, seed) for seed in range(DRAWN)]
     trials += [(swept, seed) for seed in range(SWEEPS)]
-    trials += [(refused, case) for case in WRONG]
+    trials += [(refused, case) for case in WRONG + WRONG_ASSUMPTIONS]
+    trials += [(assumed, case) for case in MET + UNMET] + [(unexplored, case) for case in UNMET]
     found = on_all_processors(lambda trial: trial[0](program, trial[1]), trials)
-    counts = {"examples": len(EXAMPLES), "drawn files": DRAWN, "sweeps": SWEEPS, "refusals": len(WRONG)}
+    counts = {"examples": len(EXAMPLES), "drawn files": DRAWN, "sweeps": SWEEPS}
+    counts |= {"assumptions": len(MET) + len(UNMET), "refusals": len(WRONG) + len(WRONG_ASSUMPTIONS)}
     return tell("check_properties", counts, found)
 
 

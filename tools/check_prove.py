@@ -5,8 +5,9 @@ Each step of their claims that has a certificate must be proved, and each other 
 that a small bench refutes must not be proved, whatever its certificate is: the certificates are changed word by word, and
 those of other steps are given to it. Nor must a step be proved if the state of its certificate doesn't begin it. A
 certificate that ends early, or has a wrong word, must be refused with the number of the word, and claims with an error
-with line and column. Of a rule outside the fragment it must be said why. The certificates of the clock are checked within a bound on time. If z3 is installed, a certificate
-that tools/all_sizes.py writes must prove its step. PROGRAM is as for check_rows.py.
+with line and column. Of a rule outside the fragment it must be said why. Properties must be proved in each form, or not
+be covered. The certificates of an example are checked within a bound on time. If z3 is installed, a certificate that
+tools/all_sizes.py writes must prove its step. PROGRAM is as for check_rows.py.
 """
 import pathlib
 import random
@@ -23,6 +24,7 @@ from built_program import TOP, answer, named_program, on_all_processors, tell
 SEED, CHANGES, SECONDS = 9669, 120, 0.5
 HOLDS, NONE = "holds for all n, f, M; it begins at n = 4, f = 1, M = ", "not proved: no certificate"
 UNBEGUN = "not proved: the state of the certificate doesn't begin it"
+UNCOVERED_PROPERTY = "not proved: the property isn't covered"
 UNJUDGED = "not proved: the certificate can't be judged: the rule "
 # A step that a certificate proves of `clock = 0`, and rules of which none is judged, with the reason.
 ZERO_CLAIM = "set Zero: p.clock == 0\nstep any -> Zero\n"
@@ -37,7 +39,10 @@ OUTSIDE = [
 EXAMPLES = {
     "clock": ({6: 2, 10: 2, 11: 2, 19: 2, 20: 3, 21: 2, 22: 2}, []),
     "two_coins": ({7: 2, 8: 2, 13: 2, 16: 2, 17: 2}, [6]),
+    "agreement": ({3: 2}, []),
 }
+# The rule, the claims and the certificates of an example, if they aren't those of its name.
+FILES = {"agreement": ("rules/clock.rule", "properties/agreement.claims", "certificates/agreement.txt")}
 # Wrong rules and claims: what is changed, and the lines whose steps are then refuted by a small bench.
 WRONG = [
     ("clock", "n > 3 * f", "n > 2 * f", [6]),
@@ -48,6 +53,29 @@ WRONG = [
     ("clock", "elif mark != 0:", "elif 1 == 0:", [10]),
     ("two_coins", "n > 3 * f", "n >= 3 * f", [7]),
     ("two_coins", "zeros >= n - f", "zeros >= n - f - 1", [7]),
+    ("agreement", "n > 3 * f", "n >= 3 * f", [3]),
+    ("agreement", "assume n > 3 * f", "", [3]),
+    ("agreement", "support < n - f:", "support < n - f - 1:", [3]),
+    ("agreement", "always p.clock == 0 or q.clock == 0 or p.clock == q.clock", "always p.clock == q.clock", [3]),
+    ("agreement", "p.clock == q.clock", "p.clock != q.clock", [3]),
+]
+# Lines in place of the property of `agreement` that its certificate proves as well.
+ALIKE = [
+    "eventually always p.clock == 0 or q.clock == 0 or p.clock == q.clock",
+    "within 0 p.clock == 0 or q.clock == 0 or p.clock == q.clock",
+    "within 1000000 p.clock == 0 or q.clock == 0 or p.clock == q.clock",
+    "  always ((p.clock == 0 or\n\n  (q.clock == 0)) or (p.clock) == q.clock)  # the same",
+]
+# Lines in its place that aren't covered.
+UNCOVERED = [
+    "always p.clock <= q.clock + 1",
+    "always p.clock == 0 or q.clock == 0 or p.clock == q.clock or 1 == 1 + 0",
+    "always p.clock == 0 or q.clock == 0 or p.before.clock == q.clock",
+    "eventually always p.me == q.me",
+    "within 2 (1 if p.clock else 0)",
+    "always p.mark == (q.clock != 0)",
+    "always p.mark == (not q.clock)",
+    "always p.clock - 1",
 ]
 # Steps of the clock that no state begins, or not the one of the certificate of line 11: Common[M - 1] -> Common[0].
 IMPOSSIBLE = [
@@ -58,6 +86,8 @@ IMPOSSIBLE = [
     ("step Common[M - 1] -> Common[0]", "step Common[M - 1] -> Common[0] if M < 2"),
     ("step Common[M - 1] -> Common[0]", "step Common[M - 1] -> Common[0] coin 2"),
 ]
+# Assumptions of `agreement` that the state of its certificate doesn't meet.
+UNMET = ["n > 3 * f and n > 4", "n > 3 * f and M != 2", "n > 3 * f and f == 0"]
 # The state of that certificate, and states that don't begin the step.
 BEGUN_11 = "begins 4 1 2 free 0 sent 1 words 2 1 1"
 STATES = [
@@ -87,13 +117,31 @@ FAULTY = [
     ("set A: 600 * p.clock + 3401 * n > 0\nstep any -> A", "OutOfRange line 1 column 33"),
     ("set A: " + "1 and " * 4000 + "1\nstep any -> A", "TooLong line 1 column 16388"),
     ("assume 1\n" * 4000, "TooLong line 1821 column 8"),
+    ("assume n > f\nalways p.clok == 0", "UnknownName line 2 column 10"),
+    ("always p.sent == 0", "UnknownName line 1 column 10"),
+    ("always p.before.sent == 0", "UnknownName line 1 column 17"),
+    ("always c == p.clock", "UnknownName line 1 column 8"),
+    ("always p == 0", "Expected line 1 column 10"),
+    ("always p.clock ==", "Expected line 1 column 18"),
+    ("eventually p.clock", "Expected line 1 column 12"),
+    ("within p.clock", "Expected line 1 column 8"),
+    ("within 1000001 p.clock", "OutOfRange line 1 column 8"),
+    ("always mail[0] == 0", "NotCovered line 1 column 8"),
+    ("always p.clock == q.clock and clock", "NotCovered line 1 column 31"),
+    ("step any -> any\nalways (count j: mail[j] == 0) > f", "NotCovered line 2 column 9"),
+    ("assume p.clock > 1\nalways p.clock", "Expected line 1 column 8"),
+    ("assume n / 2 > f\nalways p.clock", "NotCovered line 1 column 10"),
 ]
+# A rule with a word that properties have for something else, claims, and the error.
+TAKEN = ("state before\nclock = 0\nsend clock\n", "assume n > f\n\n  within 4 p.clock == 0", "NameTwice line 3 column 3")
 # Claims that are as long and as deep as they may be.
 LONGEST = [
     "set A: " + "1 and " * 2700 + "1\nstep any -> A",
     "set A: " + "1 or " * 3200 + "1\nstep any -> A",
     "assume 1\n" * 1800 + "step any -> any",
     "set A: 4000 * n >= 0\nstep any -> A",
+    "always " + "1 and " * 2700 + "1",
+    "within 7 " + "p.clock or " * 1400 + "1",
 ]
 # Certificates with an error, and the error.
 BEGUN = "step 6 begins 4 1 2 free 0 sent 0 words 2 0 0"
@@ -123,9 +171,9 @@ class Example:
     """A rule with claims and certificates, or with an edit of one of them."""
 
     def __init__(self, name, old="", new=""):
+        paths = FILES.get(name, (f"rules/{name}.rule", f"claims/{name}.claims", f"certificates/{name}.txt"))
         self.rule, self.claims, self.certificates = (
-            (TOP / f"examples/{place}").read_text(encoding="utf-8")
-            for place in (f"rules/{name}.rule", f"claims/{name}.claims", f"certificates/{name}.txt")
+            (TOP / "examples" / it).read_text(encoding="utf-8") for it in paths
         )
         if old:
             if old not in self.rule + self.claims:
@@ -199,6 +247,31 @@ def begun_faults(program):
     return in_a_room(faults)
 
 
+def property_faults(program):
+    """A property of the same term is proved by the certificate, in each form, and others aren't covered."""
+
+    def faults(room, item):
+        old, new, wanted = item
+        example = Example("agreement")
+        example.claims = example.claims.replace(old, new)
+        told = proved(program, room, example)
+        if lines_of(told) != {3: wanted} or told.status != (0 if wanted.startswith(HOLDS) else 4) or told.err:
+            yield f"{example.claims}: {told}"
+
+    return in_a_room(faults)
+
+
+def property_trials():
+    """Edits of `agreement`, and the answer to its property then."""
+    line = Example("agreement").claims.splitlines()[2]
+    for new in ALIKE:
+        yield line, new, f"{HOLDS}2"
+    for new in UNCOVERED:
+        yield line, new, UNCOVERED_PROPERTY
+    for new in UNMET:
+        yield "n > 3 * f", new, UNBEGUN
+
+
 def changed(certificates, drawn):
     """A certificate with a word changed, left out or said twice."""
     words = certificates.split()
@@ -247,8 +320,9 @@ def depth_faults(program):
 
 def refused_faults(program):
     def faults(room, item):
-        kind, text, error = item
+        kind, text, error, *rule = item
         example = Example("clock")
+        example.rule = rule[0] if rule else example.rule
         if kind == "claims":
             example.claims = text
         else:
@@ -278,16 +352,18 @@ def outside_faults(program):
 
 
 def written_faults(program):
-    """The certificate that the tool writes of one step."""
+    """The certificate that the tool writes of one step or property of the clock."""
 
-    def faults(room, line):
-        names = [str(TOP / "examples/rules/clock.rule"), str(TOP / "examples/claims/clock.claims")]
+    def faults(room, item):
+        name, line = item
+        example = Example(name)
+        (room / "written_of").write_text(example.claims, encoding="utf-8")
+        names = [str(TOP / "examples/rules/clock.rule"), str(room / "written_of")]
         words = [sys.executable, str(TOP / "tools/all_sizes.py"), *names, "--seconds", "300", "--line", str(line)]
         subprocess.run([*words, "--certificate", str(room / "written")], capture_output=True, check=False)
-        example = Example("clock")
         example.certificates = (room / "written").read_text(encoding="utf-8")
         told = proved(program, room, example)
-        if lines_of(told).get(line) != f"{HOLDS}{EXAMPLES['clock'][0][line]}":
+        if lines_of(told).get(line) != f"{HOLDS}{EXAMPLES[name][0][line]}":
             yield f"line {line}, as all_sizes.py writes it: {told}"
 
     return in_a_room(faults)
@@ -296,20 +372,25 @@ def written_faults(program):
 def main():
     program = named_program()
     refused = [("claims", *it) for it in FAULTY] + [("certificate", *it) for it in BAD]
+    refused.append(("claims", *TAKEN[1:], TAKEN[0]))
+    properties = list(property_trials())
     found = on_all_processors(example_faults(program), EXAMPLES)
     found += on_all_processors(wrong_faults(program), WRONG)
     unbegun = [*IMPOSSIBLE, *((BEGUN_11, it) for it in STATES)]
     found += on_all_processors(begun_faults(program), unbegun)
+    found += on_all_processors(property_faults(program), properties)
     found += on_all_processors(change_faults(program), range(CHANGES))
     found += on_all_processors(refused_faults(program), refused)
     found += on_all_processors(outside_faults(program), OUTSIDE)
     deep = [("claims", it) for it in LONGEST] + [("certificate", it) for it in DEEPEST]
     found += on_all_processors(depth_faults(program), deep)
     counts = {"examples": len(EXAMPLES), "wrong steps": len(WRONG), "no beginnings": len(unbegun), "changes": CHANGES}
+    counts |= {"properties": len(properties)}
     counts |= {"refusals": len(refused), "outside": len(OUTSIDE), "at limits": len(deep)}
     if shutil.which("z3"):
-        found += on_all_processors(written_faults(program), [11])
-        counts["written"] = 1
+        written = [("clock", 11), ("agreement", 3)]
+        found += on_all_processors(written_faults(program), written)
+        counts["written"] = len(written)
     return tell("check_prove", counts, found)
 
 

@@ -3,13 +3,21 @@ import dataclasses
 import difflib
 import re
 
-from rule_text import LIMIT, MAX_LETTERS, NONE, TOKEN, Name, Reader, Refused, unexpected
-from symbolic import WHOLE, Terms, all_of
+from rule_text import (
+    FIXED, LIMIT, MAX_LETTERS, NONE, TOKEN, Binary, Choice, Given, Inverse, Name, Number, Reader, Refused, unexpected,
+)
+from symbolic import KNOWN, WHOLE, Terms, all_of
 
 SIZES = ("n", "f", "M")
-ANY, SENT = "any", "sent"
-MAX_SHOWN = 120
+ANY, SENT, BEFORE = "any", "sent", "before"
+MAX_SHOWN, MAX_WITHIN = 120, 1_000_000
 NODES = {"p": ("node", None), "q": ("node", None)}
+# The forms of properties by their first words.
+ALWAYS, EVENTUALLY, WITHIN = "always", "eventually", "within"
+FORMS = (ALWAYS, EVENTUALLY, WITHIN)
+# Words of rules' terms that properties don't have. Other words of rules are no names there.
+NOT_OF_PROPERTIES = ("mail", "me", "coin", "clock", "count", "least", "sorted")
+CONNECTIVES = ("if", "else", "or", "and", "not")
 
 
 class ClaimsRefused(Refused):
@@ -28,6 +36,15 @@ class Field:
 
 
 @dataclasses.dataclass(frozen=True)
+class OfRun:
+    """What properties have of node p or q beside its words: p.me, p.before.clock."""
+
+    node: str
+    word: str
+    place: tuple
+
+
+@dataclasses.dataclass(frozen=True)
 class Set:
     parameters: list
     term: object
@@ -35,15 +52,18 @@ class Set:
 
 @dataclasses.dataclass(frozen=True)
 class Use:
-    """A set with the numbers of its parameters."""
+    """A set with the numbers of its parameters. That of a property has no name."""
 
     name: str
     terms: list
     place: tuple
+    own: Set = None
 
 
 @dataclasses.dataclass(frozen=True)
 class Step:
+    """A step, or a property: the step from any state to where its term holds."""
+
     text: str
     line: int
     before: Use
@@ -52,6 +72,8 @@ class Step:
     is_correct: bool  # nodes whose messages are read by number are correct
     coin: object  # None: any coins
     free: tuple  # names that are any numbers
+    form: str = None  # the first word of a property
+    uncovered: tuple = None  # the place of the first part of a property that no claim has
 
 
 @dataclasses.dataclass(frozen=True)
@@ -60,15 +82,19 @@ class Claims:
     sets: dict
     steps: list
 
+    def set_of(self, use):
+        return use.own or self.sets[use.name]
+
 
 class ClaimReader(Reader):
-    """Reads claims; terms are those of rules, with words of p and q, and without counts and messages."""
+    """Reads claims; terms are those of rules, with words of p and q, and without counts and messages. `kind` is the
+    first word of the line."""
 
     PATTERN = re.compile(TOKEN.pattern.replace(b"(?P<sign>", rb"(?P<sign>->|\.|"))
-    ENDS_AT_NEXT = True
+    HAS_BLOCKS = False
 
     def __init__(self, text, words):
-        self.words, self.text, self.free = [*words, SENT], text, None
+        self.words, self.text, self.kind, self.free = [*words, SENT], text, None, None
         super().__init__(text)
         self.names = dict(NODES)
 
@@ -76,17 +102,18 @@ class ClaimReader(Reader):
         if SENT in self.words[:-1]:
             raise Refused("NameTwice", self.now.place, "p.sent is what p sent: rename the rule's word sent")
         found = Claims([], {}, [])
-        readers = {"assume": self.assumption, "set": self.set, "step": self.step}
+        readers = {"assume": self.assumption, "set": self.set, "step": self.step, **dict.fromkeys(FORMS, self.property)}
         while self.now.kind != "stop":
             token = self.next()
             if token.kind != "name" or token.text not in readers:
-                raise unexpected(token, '"assume", "set" or "step"')
+                raise unexpected(token, alternatives(readers))
+            self.kind = token.text
             readers[token.text](found, token)
             if self.now.kind != "end":
                 raise unexpected(self.now, "an operator or the end of the line")
             self.next()
         if not found.steps:
-            raise Refused("Expected", self.now.place, "no step is claimed: expected a line such as step any -> Agree")
+            raise Refused("Expected", self.now.place, "no step and no property: expected a line such as step any -> Agree")
         for step in found.steps:
             check_use(step.before, found.sets)
             check_use(step.after, found.sets)
@@ -133,9 +160,29 @@ class ClaimReader(Reader):
         if is_correct:
             self.next()
         coin = self.clause(self.at("coin"))
-        text = self.text_between(token.place, self.now)
+        text = self.text_from(token).removeprefix("step ")
         found.steps.append(Step(text, token.place[0], before, after, condition, is_correct, coin, tuple(self.free)))
         self.free = None
+
+    def property(self, found, token):
+        if BEFORE in self.words:
+            raise Refused("NameTwice", token.place, "p.before has p's words before the pulse: rename the rule's word before")
+        if token.text == EVENTUALLY:
+            self.expect_name(ALWAYS)
+        elif token.text == WITHIN:
+            self.pulses()
+        term = self.term()
+        first, after = Use(ANY, [], token.place), Use("", [], token.place, Set([], term))
+        outside = min(uncovered(term), default=None)
+        text = self.text_from(token)
+        found.steps.append(Step(text, token.place[0], first, after, None, False, None, (), token.text, outside))
+
+    def pulses(self):
+        token = self.next()
+        if token.kind != "number":
+            raise unexpected(token, "a number of pulses")
+        if int(token.text) > MAX_WITHIN:
+            raise Refused("OutOfRange", token.place)
 
     def clause(self, is_there):
         """The term after a word, if the word is there."""
@@ -149,16 +196,23 @@ class ClaimReader(Reader):
         terms = self.listed(self.term) if self.at("[") else []
         return Use(token.text, terms, token.place)
 
-    def text_between(self, place, token):
-        """The text of a step, without its first word and comments."""
-        lines = self.text.decode(errors="replace").split("\n")[place[0] - 1 : token.place[0]]
-        codes = [it.split("#")[0].strip() for it in lines]
-        last = len(codes) if token.place[0] > place[0] and token.kind == "stop" else max(len(codes) - 1, 1)
-        return " ".join(it for it in codes[:last] if it).removeprefix("step").strip()
+    def text_from(self, token):
+        """The line of claims that begins with a token and ends here, without comments."""
+        lines = self.text.decode(errors="replace").split("\n")[token.place[0] - 1 : self.now.place[0]]
+        return " ".join(word for it in lines for word in it.split("#")[0].split())
+
+    def expect_name(self, *names):
+        """A name, or one of these names."""
+        token = self.next()
+        if token.kind not in ("name", "word") or names and token.text not in names:
+            raise unexpected(token, alternatives(names) if names else "a name")
+        return token
 
     # ---- terms
 
     def any_term(self):
+        if self.kind in FORMS:
+            return self.choosing()
         if self.at("count"):
             raise Refused("Expected", self.now.place, "a count isn't part of claims: they have p.clock, p.sent")
         if self.at("sorted"):
@@ -166,11 +220,26 @@ class ClaimReader(Reader):
         return super().any_term()
 
     def atom(self):
-        if self.at("mail", "me", "coin", "clock"):
+        if self.kind in FORMS:
+            self.check_word()
+        elif self.at("mail", "me", "coin", "clock"):
             raise Refused("Expected", self.now.place, f'"{self.now.text}" isn\'t part of claims: write p.clock, p.sent')
         return super().atom()
 
+    def check_word(self):
+        """Refuses a word of rules that properties don't have."""
+        token = self.now
+        if token.kind in ("name", "word") and token.text in NOT_OF_PROPERTIES:
+            raise Refused("NotCovered", token.place, f"{quoted(token.text)} isn't part of properties: write p.clock, p.me")
+        if token.kind == "word" and token.text not in (*FIXED, *CONNECTIVES):
+            raise unknown(token, self.known())
+
+    def known(self):
+        return [*SIZES, *self.names, *(f"p.{it}" for it in self.words)]
+
     def named(self, token):
+        if self.kind in FORMS:
+            return self.property_name(token)
         if token.text in NODES and self.at("."):
             return self.field(token)
         if token.text in self.names and token.text not in NODES:
@@ -178,19 +247,61 @@ class ClaimReader(Reader):
         if token.text in NODES:
             raise Refused("Expected", token.place, f"write a word of the node, such as {token.text}.clock")
         if self.free is None:
-            raise unknown(token, [*SIZES, *self.names, *(f"p.{it}" for it in self.words)])
+            raise unknown(token, self.known())
         if token.text not in self.free:
             self.free.append(token.text)
         return Name(token.text, "free", None, token.place)
 
     def field(self, token):
+        if self.kind != "set":
+            raise Refused("Expected", token.place, "only sets and properties speak of p and q")
         self.next()
-        word = self.next()
-        if word.text not in self.words:
-            raise unknown(word, self.words)
-        if self.free is not None:
-            raise Refused("Expected", token.place, "only a set speaks of p and q")
-        return Field(token.text, word.text)
+        return Field(token.text, self.word_in(self.words).text)
+
+    def word_in(self, words):
+        word = self.expect_name()
+        if word.text not in words:
+            raise unknown(word, words)
+        return word
+
+    def property_name(self, token):
+        """A word of a node after the pulse or before it, or its number."""
+        if token.text not in NODES:
+            raise unknown(token, self.known())
+        self.expect(".")
+        words = self.words[:-1]
+        word = self.word_in([*words, "me", BEFORE]).text
+        if word in words:
+            return Field(token.text, word)
+        if word == BEFORE:
+            self.expect(".")
+            word = f"{BEFORE}.{self.word_in(words).text}"
+        return OfRun(token.text, word, token.place)
+
+
+def quoted(word):
+    return f'"{word}"'
+
+
+def alternatives(words):
+    *others, last = map(quoted, words)
+    return f"{', '.join(others)} or {last}" if others else last
+
+
+def uncovered(term, is_side=False):
+    """The places of the parts of a property's term that may be another number in claims, where numbers are whole."""
+    if isinstance(term, (Number, Given, Field)):
+        return
+    is_test = isinstance(term, Inverse) or isinstance(term, Binary) and term.sign in (*KNOWN, "and", "or")
+    if is_side or not is_test:
+        yield term.place
+    if isinstance(term, Inverse):
+        yield from uncovered(term.inner)
+    if isinstance(term, Binary):
+        yield from uncovered(term.left, term.sign in KNOWN)
+        yield from uncovered(term.right, term.sign in KNOWN)
+    if isinstance(term, Choice):
+        yield from uncovered(term.then)
 
 
 def unknown(token, known):
@@ -200,7 +311,7 @@ def unknown(token, known):
 
 
 def check_use(use, sets):
-    if use.name == ANY and not use.terms:
+    if use.own or use.name == ANY and not use.terms:
         return
     if use.name not in sets:
         near = difflib.get_close_matches(use.name, [ANY, *sets], 1)
@@ -222,8 +333,9 @@ def read_claims(text, words):
 
 WHY = {
     "BadCharacter": "no token begins with this byte, or a letter follows a number",
-    "BadIndent": "lines of one block begin in one column, and claims in that of the first one",
-    "OutOfRange": f"a number is at most {LIMIT - 1}, and a name has at most {MAX_LETTERS} letters",
+    "BadIndent": "lines of one block begin in one column",
+    "OutOfRange": f"a number is at most {LIMIT - 1}, that of within at most {MAX_WITHIN}, and a name has at most "
+    f"{MAX_LETTERS} letters",
     "TooDeep": "too many parts in one another, or too many names",
     "TooLong": "the line or the text has too many tokens",
 }
@@ -232,13 +344,9 @@ WHY = {
 def note_of(why, text):
     """Where an error is, and how to fix it: a line as the program's notes."""
     line, column = why.place
-    lines = [it.split("#")[0].strip() for it in text.decode(errors="replace").split("\n")]
-    reason = WHY.get(why.name) or why.why
-    wanted, is_early, _ = reason.partition(", found end of")
-    if is_early:
-        last = max((number for number, it in enumerate(lines[: line - 1], 1) if it), default=line)
-        return f"note: line {line}, column {column}: {wanted} at the end of line {last}"
-    return f"note: line {line}, column {column}: {lines[line - 1][:MAX_SHOWN]}; {reason}"
+    code = text.decode(errors="replace").split("\n")[line - 1].split("#")[0].strip()
+    shown = f"{code[:MAX_SHOWN]}; " if code else ""
+    return f"note: line {line}, column {column}: {shown}{WHY.get(why.name) or why.why}"
 
 
 # ---- meaning
@@ -267,7 +375,7 @@ def is_in(claims, use, names, p, q):
     """The condition that the states p and q are in a set; a state has a number for each word and for `sent`."""
     if use.name == ANY:
         return True
-    found, terms = claims.sets[use.name], ClaimTerms(names)
+    found, terms = claims.set_of(use), ClaimTerms(names)
     inner = {it: names[it] for it in SIZES} | dict(zip(found.parameters, map(terms.value, use.terms)))
     inner |= {f"p.{word}": it for word, it in p.items()} | {f"q.{word}": it for word, it in q.items()}
     return ClaimTerms(inner).holds(found.term)

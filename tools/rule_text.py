@@ -107,12 +107,13 @@ class Lookup:
             return Number(runs[0][1])
         half = len(runs) // 2
         test = Binary("<", self.index, Number(runs[half][0]), self.place)
-        return Choice(test, self.choices_of(runs[:half]), self.choices_of(runs[half:]))
+        return Choice(test, self.choices_of(runs[:half]), self.choices_of(runs[half:]), self.place)
 
 
 @dataclasses.dataclass(frozen=True)
 class Inverse:
     inner: object
+    place: tuple
 
 
 @dataclasses.dataclass(frozen=True)
@@ -130,6 +131,7 @@ class Choice:
     test: object
     then: object
     other: object
+    place: tuple
 
 
 @dataclasses.dataclass(frozen=True)
@@ -199,16 +201,19 @@ class Token:
     place: tuple
 
 
-def tokens_of(text, pattern, ends_at_next):
+def tokens_of(text, pattern, has_blocks):
     """The tokens of a text, up to the first fault: the reader refuses it when it comes there."""
     try:
-        yield from sound_tokens(text, pattern, ends_at_next)
+        yield from sound_tokens(text, pattern, has_blocks)
     except Refused as why:
         yield Token("fault", why.name, why.place)
 
 
-def sound_tokens(text, pattern, ends_at_next):
-    """The tokens of a text, line by line. `in` and `out` are those of blocks; `end` is where a line has ended."""
+def sound_tokens(text, pattern, has_blocks):
+    """The tokens of a text, line by line. `in` and `out` are those of blocks; `end` is where a line has ended.
+
+    Without blocks a line begins in any column, and has ended after its blanks and its comment.
+    """
     columns, depth, lines, count, ended = [], 0, 0, 0, (1, 1)
     most, lookups, before = MAX_TOKENS, 0, ""
     for number, line in enumerate(text.split(b"\n"), 1):
@@ -218,10 +223,13 @@ def sound_tokens(text, pattern, ends_at_next):
         if found and depth == 0:
             place = found[0].place
             if lines:
-                yield Token("end", "end of line", place if ends_at_next else ended)
-            if lines == MAX_LINES or code[column : column + 1] in b"\t\r":
-                raise Refused("TooLong" if code[column : column + 1] not in b"\t\r" else "BadIndent", place)
-            yield from indented(columns, column, place, not lines)
+                yield Token("end", "end of line", ended)
+            if has_blocks and code[column : column + 1] in b"\t\r":
+                raise Refused("BadIndent", place)
+            if lines == MAX_LINES:
+                raise Refused("TooLong", place)
+            if has_blocks:
+                yield from indented(columns, column, place, not lines)
             lines, count = lines + 1, 0
             most = MAX_TABLE_TOKENS if is_word(found[0], "table") else MAX_TOKENS
         for token in found:
@@ -234,12 +242,13 @@ def sound_tokens(text, pattern, ends_at_next):
             depth, count = max(depth + DEEPER.get(token.text, 0), 0), count + 1
             ended = number, token.place[1] + len(token.text)
             yield token
-    if ends_at_next:
-        ended = text.count(b"\n") + 1, len(text.split(b"\n")[-1]) + 1
+        if found and not has_blocks:
+            ended = number, len(line) + 1
+    last = ended if has_blocks else (number, len(line) + 1)
     if lines:
-        yield Token("end", "end of line", ended)
+        yield Token("end", *(("end of text", last) if depth else ("end of line", ended)))
     yield from (Token("out", "end of block", ended) for _ in columns[1:])
-    yield Token("stop", "end of text", ended)
+    yield Token("stop", "end of text", last)
 
 
 def indented(columns, column, place, is_first):
@@ -297,11 +306,11 @@ class Reader:
     """Reads a rule as a tree."""
 
     PATTERN = TOKEN
-    # What is missing at the end of a line is missing there, or at the next token.
-    ENDS_AT_NEXT = False
+    # Whether deeper lines are blocks.
+    HAS_BLOCKS = True
 
     def __init__(self, text):
-        self.tokens, self.now = tokens_of(text, self.PATTERN, self.ENDS_AT_NEXT), None
+        self.tokens, self.now = tokens_of(text, self.PATTERN, self.HAS_BLOCKS), None
         self.parts, self.blocks = 0, 0
         self.after = next(self.tokens)
         self.names = {"clock": ("word", 0)}
@@ -510,13 +519,16 @@ class Reader:
             return self.aggregate(Least)
         if self.at("sorted"):
             return self.sorted()
+        return self.choosing()
+
+    def choosing(self):
         first = self.either()
         if not self.at("if"):
             return first
-        self.next()
+        place = self.next().place
         test = self.either()
         self.expect("else")
-        return Choice(test, first, self.term())
+        return Choice(test, first, self.term(), place)
 
     def is_least(self):
         """Whether `least` is a word here: it isn't reserved, and is one if a name follows."""
@@ -557,8 +569,8 @@ class Reader:
     def inverse(self):
         if not self.at("not"):
             return self.compare()
-        self.next()
-        return Inverse(self.within(self.inverse))
+        place = self.next().place
+        return Inverse(self.within(self.inverse), place)
 
     def compare(self):
         left = self.sum()

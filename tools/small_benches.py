@@ -352,7 +352,8 @@ def explained(rule, claims, step, case):
     """The case in words, as comments: the step, its sizes, the states before it, and those that fail after it."""
     after = case.after(rule, step)
     p, q = pairs_outside(claims, step.after, case.names, after)
-    yield f"# Pulse {PULSE} refutes a step of claims for all sizes (tools/all_sizes.py): {step.text}"
+    kind = "property" if step.form else "step of claims"
+    yield f"# Pulse {PULSE} refutes a {kind} for all sizes (tools/all_sizes.py): {step.text}"
     yield f"# {', '.join(f'{name} = {it}' for name, it in case.names.items())}"
     uses_coin = any(isinstance(it, Given) and it.name == "coin" for it in parts_of(rule))
     for node, state in case.states.items():
@@ -363,8 +364,11 @@ def explained(rule, claims, step, case):
         yield f"# Byzantine: {', '.join(byzantine)}."
     for node in sorted({p, q}):
         yield f"# After it node {node} has {shown(after[node])}."
-    whose = f"node {p} isn't" if p == q else f"nodes {p} and {q} aren't"
-    yield f"# So {whose} in {step.after.name}."
+    whose = f"node {p}" if p == q else f"nodes {p} and {q}"
+    if step.form:
+        yield f"# So the term fails for {whose}."
+    else:
+        yield f"# So {whose} {'is' if p == q else 'are'}n't in {step.after.name}."
 
 
 def entries_of(rule, step, case):

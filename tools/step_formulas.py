@@ -258,7 +258,7 @@ class ClaimSums:
     def of_set(self, use):
         if use.name == ANY:
             return None
-        found = self.claims.sets[use.name]
+        found = self.claims.set_of(use)
         return self.condition(found.term, dict(zip(found.parameters, (self.value(it, {}) for it in use.terms))))
 
 

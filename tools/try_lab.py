@@ -977,7 +977,10 @@ def try_sizes(trial, page):
     if tomllib is None:
         return
     claims, rule = page.value("document.getElementById('claims').value"), tomllib.loads(page.scenario())["rule"]
-    for text in (claims, claims.replace("3 * f", "2 * f"), claims.replace("p.clock ==", "p.clok ==")):
+    agreement = (EXAMPLES / "properties/agreement.claims").read_text()
+    right = claims, agreement
+    wrong = [it.replace("3 * f", "2 * f") for it in right] + [it.replace("p.clock ==", "p.clok ==") for it in right]
+    for text in (*right, *wrong):
         page.put("#claims", text)
         page.click("#decide")
         page.until("document.getElementById('decide-cancel').disabled")

@@ -14,7 +14,7 @@ use Rattle.claim_proofs.specs.declared.proving.Answer.{Answer}
 use Rattle.claim_proofs.specs.declared.proving.Refusal.{Refusal}
 use Rattle.claim_proofs.specs.declared.proving.Refusal.TheVariants.{Rule, Claims, Certificates}
 use Rattle.claim_proofs.specs.declared.proving.Outcome.{Outcome}
-use Rattle.claim_proofs.specs.declared.proving.Outcome.TheVariants.{Holds, NoCertificate, Unbegun, Rejected, Unjudged}
+use Rattle.claim_proofs.specs.declared.proving.Outcome.TheVariants.{Holds, NoCertificate, Unbegun, Rejected, Unjudged, NotCovered}
 use Rattle.claim_proofs.specs.Proved.{AreRight, IsProofRefusal}
 use Rattle.command_answers.specs.declared.ending.Ending.{Ending}
 use Rattle.command_answers.specs.declared.ending.Ending.TheVariants as endings
@@ -25,9 +25,9 @@ use Rattle.requests.specs.declared.request.ProveOptions.{ProveOptions}
 
 -- ---- answers
 
--- Where it is answered that a step holds, it holds of the rule at all sizes, and begins at those of the answer; or a
--- refusal, of the rule by its first error.
--- Which steps are those of the claims, and what is wrong with claims and certificates, is tested only.
+-- Where it is answered that a step holds, it holds of the rule at all sizes, and begins at those of the answer; a
+-- property is answered as the step from any state to where its term holds; or a refusal, of the rule by its first error.
+-- Which steps and properties are those of the claims, and what is wrong with claims and certificates, is tested only.
 abbrev pub Proves : ProveOptions → Result (Vec Answer Global) Refusal → Type 0
 Proves asked (Ok answers) = AreRight (string_bytes asked.rule) answers.items
 Proves asked (Err refusal) = IsProofRefusal (string_bytes asked.rule) refusal
@@ -54,8 +54,9 @@ outcome_text NoCertificate = codes "not proved: no certificate"
 outcome_text Unbegun = codes "not proved: the state of the certificate doesn't begin it"
 outcome_text Rejected = codes "not proved: the certificate doesn't prove it"
 outcome_text (Unjudged why) = codes "not proved: the certificate can't be judged: " ++ reason why
+outcome_text NotCovered = codes "not proved: the property isn't covered"
 
--- the line of a step, and that of its answer
+-- the line of a claim, and that of its answer
 abbrev pub answer_lines : Answer → List ℕ
 answer_lines answer = codes "line " ++ (decimal answer.line ++ (codes ": " ++ (string_bytes answer.text
     ++ (codes "\n  " ++ (outcome_text answer.outcome ++ codes "\n")))))
@@ -72,7 +73,7 @@ certificate_text (TooDeep number) = codes "TooDeep word " ++ decimal number
 -- the line of a refusal, without its end
 abbrev pub proof_refusal_line : Refusal → List ℕ
 proof_refusal_line (Rule error line column) = codes "refused rule " ++ (error_name error ++ claim_place_text line column)
-proof_refusal_line (Claims error line column) = claims_refusal_line error line column
+proof_refusal_line (Claims refusal) = claims_refusal_line refusal.error refusal.line refusal.column
 proof_refusal_line (Certificates error) = codes "refused certificate " ++ certificate_text error
 
 abbrev pub proved_text : Result (Vec Answer Global) Refusal → List ℕ
@@ -87,6 +88,7 @@ is_proved NoCertificate = false
 is_proved Unbegun = false
 is_proved Rejected = false
 is_proved (Unjudged why) = false
+is_proved NotCovered = false
 
 abbrev pub proved_ending : Result (Vec Answer Global) Refusal → Ending
 proved_ending (Ok answers) =

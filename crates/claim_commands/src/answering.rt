@@ -8,6 +8,7 @@ ghost use Rattle.command_answers.specs.inner.Responses.{IsNoted, IsResponse};
 
 use crate::lines::{RefusalLine, add_answers, are_proved};
 use claim_proofs::{Answer, NotProved, Refusal, prove};
+use claim_tokens::ClaimsRefusal;
 use command_answers::{Ending, Fault, Response, TEXT_BYTES};
 use requests::ProveOptions;
 use rule_notes::{Note, note_on_rule};
@@ -80,11 +81,8 @@ fn note_on(
             line,
             column,
         } => note_on_rule(alloc, options.rule.as_bytes(), error, line, column),
-        Refusal::Claims {
-            error: _error,
-            line,
-            column,
-        } => {
+        Refusal::Claims(refusal) => {
+            let ClaimsRefusal { line, column, .. } = refusal;
             let words = format!(in alloc; "line {line}, column {column} of the claims")?;
             Ok(Note::of(alloc, words))
         }

@@ -5,7 +5,6 @@ ghost use Rattle.claim_commands.specs.Prove.{answer_lines, certificate_text, is_
 
 use certified_steps::Unproved;
 use claim_proofs::{Answer, CertificateError, Outcome, Refusal};
-use claim_tokens::ClaimsRefusal;
 use std::alloc::AllocError;
 use std::fmt;
 use step_searches::Uncovered;
@@ -14,7 +13,7 @@ use step_searches::Uncovered;
 #[derive(Clone, Copy)]
 pub(crate) struct RefusalLine(pub(crate) Refusal);
 
-/// What is said of a step.
+/// What is said of a claim.
 #[derive(Clone, Copy)]
 struct OutcomeText(Outcome);
 
@@ -67,6 +66,7 @@ impl fmt::Display for OutcomeText {
                 let reason = reason(why);
                 write!(f, "not proved: the certificate can't be judged: {reason}")
             }
+            Outcome::NotCovered => write!(f, "not proved: the property isn't covered"),
         }
     }
 }
@@ -97,18 +97,7 @@ impl fmt::Display for RefusalLine {
                 let name = error.name();
                 write!(f, "refused rule {name} line {line} column {column}")
             }
-            Refusal::Claims {
-                error,
-                line,
-                column,
-            } => {
-                let refusal = ClaimsRefusal {
-                    error,
-                    line,
-                    column,
-                };
-                write!(f, "{refusal}")
-            }
+            Refusal::Claims(refusal) => write!(f, "{refusal}"),
             Refusal::Certificates(error) => {
                 let text = CertificateText(error);
                 write!(f, "refused certificate {text}")
@@ -117,18 +106,18 @@ impl fmt::Display for RefusalLine {
     }
 }
 
-/// Returns true if a step is proved.
+/// Returns true if a claim is proved.
 fn is_proved(outcome: Outcome) -> bool
     ensures { result ≡ is_proved outcome }
 {
     match outcome {
         Outcome::Holds { .. } => true,
-        Outcome::NoCertificate | Outcome::Unbegun | Outcome::Rejected | Outcome::Unjudged(_) =>
-            false,
+        Outcome::NoCertificate | Outcome::Unbegun | Outcome::Rejected => false,
+        Outcome::Unjudged(_) | Outcome::NotCovered => false,
     }
 }
 
-/// Returns true if all steps are proved.
+/// Returns true if all claims are proved.
 pub(crate) fn are_proved(answers: &[Answer]) -> bool
     ensures { result ≡ list_all (λ answer. is_proved answer.outcome) answers.now }
 {

@@ -1,20 +1,21 @@
 //! Answers to the steps of claims.
-ghost use Rattle.std.specs.Prelude.{◌≡◌, ℕ, IfOk, IfErr, Ok};
+ghost use Rattle.std.specs.Prelude.{◌≡◌, ℕ, All, IfOk, IfErr, Ok};
+ghost use Rattle.claim_text.specs.Claims.{IsMeant, IsMeantClaim};
 ghost use Rattle.claim_proofs.specs.declared.proving.NotProved.TheVariants.{Memory};
-ghost use Rattle.claim_proofs.specs.Proved.{AreRight, IsNoAnswer, IsRight, IsRightOutcome};
+ghost use Rattle.claim_proofs.specs.Proved.{AreRight, IsNoAnswer, IsRight, IsRightAnswer, IsRightOutcome};
 ghost use Rattle.rule_text.specs.Rules.{rule_form};
 ghost use Rattle.rule_text.specs.Statements.{rule_read};
 
 use crate::reader::{CertificateError, NoCertificates, StepProof, read_certificates};
 use certified_steps::{Unproved, step_holds};
-use claim_text::{ClaimedStep, read_claims};
-use claim_tokens::{ClaimError, ReadClaimsError};
+use claim_text::{Claim, ClaimedLine, read_claims};
+use claim_tokens::{ClaimsRefusal, ReadClaimsError};
 use rule_text::{ReadRuleError, Rule, RuleError, read_rule};
 use std::alloc::Global;
 use step_beginnings::begins;
 use step_searches::Step;
 
-/// What the certificates say of a step.
+/// What the certificates say of a claim.
 #[derive(Clone, Copy, Debug, PartialEq, Eq)]
 pub enum Outcome {
     /// It holds for all sizes, and at these sizes some nodes begin it.
@@ -31,15 +32,17 @@ pub enum Outcome {
     Rejected,
     /// Its certificate isn't judged, for this reason.
     Unjudged(Unproved),
+    /// It is a property that no step says.
+    NotCovered,
 }
 
-/// A step of the claims, and what the certificates say of it.
+/// A step or a property of the claims, and what the certificates say of it.
 #[derive(Drop)]
 pub struct Answer {
     pub line: usize,
     /// Its text in the claims.
     pub text: String,
-    pub step: Step,
+    pub claim: Claim,
     pub outcome: Outcome,
 }
 
@@ -51,11 +54,7 @@ pub enum Refusal {
         line: usize,
         column: usize,
     },
-    Claims {
-        error: ClaimError,
-        line: usize,
-        column: usize,
-    },
+    Claims(ClaimsRefusal),
     Certificates(CertificateError),
 }
 
@@ -112,46 +111,66 @@ fn judged_in(
     }
 }
 
-/// Returns the answer to a step of a rule.
+/// Returns what the certificates say of the claim in a line.
+fn outcome_of(
+    alloc: Global,
+    rule: &Rule,
+    claim: &Claim,
+    line: usize,
+    proofs: &[StepProof],
+) -> Result<Outcome, NotProved>
+    requires { IsMeantClaim claim.now }
+    ensures outcome { IfOk result (IsRightAnswer rule.now.statement claim.now) }
+    ensures refused { IfErr result (λ why. why ≡ Memory) }
+{
+    match claim {
+        Claim::Step(step) | Claim::Property(_, step) => judged_in(alloc, rule, step, line, proofs),
+        Claim::Uncovered => Ok(Outcome::NotCovered),
+    }
+}
+
+/// Returns the answer to a claim about a rule.
 fn answer_to(
     alloc: Global,
     text: &[u8],
     rule: &Rule,
-    claimed: ClaimedStep,
+    claimed: ClaimedLine,
     proofs: &[StepProof],
 ) -> Result<Answer, NotProved>
-    requires { rule_read text.now ≡ Ok (rule_form rule.now) }
+    requires reads { rule_read text.now ≡ Ok (rule_form rule.now) }
+    requires meant { IsMeant claimed }
     ensures answer { IfOk result (IsRight text.now) }
     ensures refused { IfErr result (IsNoAnswer text.now) }
 {
-    let ClaimedStep {
+    let ClaimedLine {
         line,
         text: shown,
-        step,
+        claim,
     } = claimed;
-    let outcome = judged_in(alloc, rule, &step, line, proofs)?;
+    let outcome = outcome_of(alloc, rule, &claim, line, proofs)?;
     Ok(Answer {
         line,
         text: shown,
-        step,
+        claim,
         outcome,
     })
 }
 
-/// Returns the answers to steps of a rule.
+/// Returns the answers to claims about a rule.
 fn answers(
     alloc: Global,
     text: &[u8],
     rule: &Rule,
-    steps: Vec<ClaimedStep>,
+    claims: Vec<ClaimedLine>,
     proofs: &[StepProof],
 ) -> Result<Vec<Answer>, NotProved>
-    requires { rule_read text.now ≡ Ok (rule_form rule.now) }
+    requires reads { rule_read text.now ≡ Ok (rule_form rule.now) }
+    requires meant { All IsMeant claims.items }
     ensures answers { IfOk result (λ all. AreRight text.now all.items) }
     ensures refused { IfErr result (IsNoAnswer text.now) }
 {
     let mut all = Vec::new(alloc);
-    for claimed in steps {
+    for claimed in claims {
         let answer = answer_to(alloc, text, rule, claimed, proofs)?;
         all.push(answer).map_err(|_| NotProved::Memory)?;
     }
@@ -159,8 +178,8 @@ fn answers(
 }
 
 /// Answers each step of the claims about a rule by certificates: where the answer is that it holds, the step holds of the
-/// rule for all n, f and M that it admits, and some nodes begin it at the sizes of the answer. The answers are in the
-/// order of the claims. Fails at the first error of the rule, then of the claims, then of the certificates.
+/// rule for all n, f and M that it admits, and some nodes begin it at the sizes of the answer. A property is answered as
+/// the step from any state to where its term holds. The answers are in the order of the claims. Fails at the first error of the rule, then of the claims, then of the certificates.
 pub fn prove(
     alloc: Global,
     rule: &[u8],
@@ -171,7 +190,7 @@ pub fn prove(
     ensures refused { IfErr result (IsNoAnswer rule.now) }
 {
     let read = rule_of(alloc, rule)?;
-    let steps = steps_of(alloc, rule, claims)?;
+    let claims = claims_of(alloc, rule, claims)?;
     let proofs = match read_certificates(alloc, certificates) {
         Ok(proofs) => proofs,
         Err(NoCertificates::Memory) => return Err(NotProved::Memory),
@@ -179,7 +198,7 @@ pub fn prove(
             return Err(NotProved::Refused(Refusal::Certificates(error)));
         }
     };
-    answers(alloc, rule, &read, steps, &proofs)
+    answers(alloc, rule, &read, claims, &proofs)
 }
 
 /// Returns the rule of a text.
@@ -204,23 +223,14 @@ fn rule_of(alloc: Global, text: &[u8]) -> Result<Rule, NotProved>
     }
 }
 
-/// Returns the steps of a text of claims.
-fn steps_of(alloc: Global, rule: &[u8], claims: &[u8]) -> Result<Vec<ClaimedStep>, NotProved>
+/// Returns the claims of a text.
+fn claims_of(alloc: Global, rule: &[u8], text: &[u8]) -> Result<Vec<ClaimedLine>, NotProved>
+    ensures claims { IfOk result (λ claims. All IsMeant claims.items) }
     ensures refused { IfErr result (IsNoAnswer rule.now) }
 {
-    match read_claims(alloc, rule, claims) {
-        Ok(steps) => Ok(steps),
+    match read_claims(alloc, rule, text) {
+        Ok(claims) => Ok(claims),
         Err(ReadClaimsError::Memory) => Err(NotProved::Memory),
-        Err(
-            ReadClaimsError::At {
-                error,
-                line,
-                column,
-            },
-        ) => Err(NotProved::Refused(Refusal::Claims {
-            error,
-            line,
-            column,
-        })),
+        Err(ReadClaimsError::Refused(refusal)) => Err(NotProved::Refused(Refusal::Claims(refusal))),
     }
 }

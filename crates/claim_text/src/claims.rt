@@ -1,4 +1,6 @@
 //! Lines of claims, and the steps that they claim.
+ghost use Rattle.std.specs.Prelude.{All, IfOk, OnOk};
+ghost use Rattle.claim_text.specs.Claims.{IsMeant};
 
 use crate::amounts::{Amount, NoAmount};
 use crate::conditions::{at_most, both};
@@ -6,15 +8,29 @@ use crate::terms::{Parameter, Scope, Terms, Words};
 use claim_tokens::{
     Bookmark, ClaimError, Kind, ReadClaimsError, Reader, Sign, Span, Token, in_one_line,
 };
-use std::alloc::Global;
+use properties::{PairTerm, Property};
+use property_steps::step_of_property;
+use property_text::{is_at_property, read_property};
+use std::alloc::{AllocError, Global};
+use std::str;
 use step_searches::{Coins, Condition, Quantity, Step};
 
-/// A step of a text, with its line and its text there.
+/// What a line claims.
 #[derive(Drop)]
-pub struct ClaimedStep {
+pub enum Claim {
+    Step(Step),
+    /// A property of runs, and the step from any state to where its term holds.
+    Property(PairTerm, Step),
+    /// A property of runs whose term isn't made of comparisons of words, sizes and numbers alone.
+    Uncovered,
+}
+
+/// A claim of a text, with its line and its text there.
+#[derive(Drop)]
+pub struct ClaimedLine {
     pub line: usize,
     pub text: String,
-    pub step: Step,
+    pub claim: Claim,
 }
 
 /// A set: its name, those of its parameters, and where its term begins.
@@ -46,33 +62,37 @@ struct Claims<'a> {
     words: Words<'a>,
 }
 
-/// Returns the steps of a text of claims about the rule of another text, in their order.
+/// Returns the steps and the properties of a text of claims about the rule of another text, in their order.
 pub fn read_claims(
     alloc: Global,
     rule: &[u8],
     text: &[u8],
-) -> Result<Vec<ClaimedStep>, ReadClaimsError> {
+) -> Result<Vec<ClaimedLine>, ReadClaimsError>
+    ensures { IfOk result (λ claims. All IsMeant claims.items) }
+{
     let names = word_names(alloc, rule)?;
     // p.sent is what p sent
     if names.iter().any(|name| name.of(rule) == b"sent".as_slice()) {
         return Err(Reader::new(text).now.error(ClaimError::NameTwice));
     }
-    steps_in(alloc, rule, &names, text)
+    claims_in(alloc, rule, &names, text)
 }
 
-/// Returns the steps of a text about a rule whose words have these names.
-fn steps_in<'a>(
+/// Returns the claims of a text about a rule whose words have these names.
+fn claims_in<'a>(
     alloc: Global,
     rule: &'a [u8],
     names: &'a [Span],
     text: &'a [u8],
-) -> Result<Vec<ClaimedStep>, ReadClaimsError> {
+) -> Result<Vec<ClaimedLine>, ReadClaimsError>
+    ensures { IfOk result (λ claims. All IsMeant claims.items) }
+{
     let claims = Claims {
         alloc,
         words: Words { rule, names },
     };
     let mut reader = Reader::new(text);
-    claims.steps(&mut reader)
+    claims.lines(&mut reader)
 }
 
 /// Returns the names of a rule's words, the clock aside: those of its first lines, which begin with `state`.
@@ -150,34 +170,51 @@ impl<'a> Claims<'a> {
     }
 
     /// Reads all lines.
-    fn steps(&self, reader: &mut Reader<'a>) -> Result<Vec<ClaimedStep>, ReadClaimsError> {
-        let mut steps = Vec::new(self.alloc);
+    fn lines(&self, reader: &mut Reader<'a>) -> Result<Vec<ClaimedLine>, ReadClaimsError>
+        ensures { IfOk result (λ claims. All IsMeant claims.items) }
+    {
+        let mut claims = Vec::new(self.alloc);
         let mut known = Known {
             premises: Vec::new(self.alloc),
             sets: Vec::new(self.alloc),
         };
         for _ in 0..reader.text.len() {
-            let token = reader.now;
-            if token.kind == Kind::TextEnd {
+            if reader.now.kind == Kind::TextEnd {
                 break;
-            } else if reader.take_word("assume") {
-                known.premises.push(reader.mark())?;
-                let _test = self.term(reader, Scope::Sizes)?;
-            } else if reader.take_word("set") {
-                let set = self.definition(reader, &known)?;
-                known.sets.push(set)?;
-            } else if reader.take_word("step") {
-                let step = self.step(reader, &known, token.line)?;
-                steps.push(step)?;
-            } else {
-                return Err(token.error(ClaimError::Expected));
             }
+            self.line(reader, &mut known, &mut claims)?;
             reader.expect_end()?;
         }
-        if steps.is_empty() {
+        if claims.is_empty() {
             return Err(reader.now.error(ClaimError::Expected));
         }
-        Ok(steps)
+        Ok(claims)
+    }
+
+    /// Reads a line, which adds a claim, or to what is known.
+    fn line(
+        &self,
+        reader: &mut Reader<'a>,
+        known: &mut Known,
+        claims: &mut Vec<ClaimedLine>,
+    ) -> Result<(), ReadClaimsError>
+        ensures { OnOk result (All IsMeant claims.old.items → All IsMeant claims.new.items) }
+    {
+        let token = reader.now;
+        if reader.take_word("assume") {
+            known.premises.push(reader.mark())?;
+            let _test = self.term(reader, Scope::Sizes)?;
+        } else if reader.take_word("set") {
+            let set = self.definition(reader, known)?;
+            known.sets.push(set)?;
+        } else if reader.take_word("step") {
+            claims.push(self.step(reader, known, token.line)?)?;
+        } else if is_at_property(reader) {
+            claims.push(self.property(reader, known)?)?;
+        } else {
+            return Err(token.error(ClaimError::Expected));
+        }
+        Ok(())
     }
 
     /// Reads a term without parameters.
@@ -277,7 +314,9 @@ impl<'a> Claims<'a> {
         reader: &mut Reader<'a>,
         known: &Known,
         line: usize,
-    ) -> Result<ClaimedStep, ReadClaimsError> {
+    ) -> Result<ClaimedLine, ReadClaimsError>
+        ensures { IfOk result IsMeant }
+    {
         let first = reader.now;
         let mut free = Vec::new(self.alloc);
         let before = self.used(reader, known, &mut free)?;
@@ -291,17 +330,63 @@ impl<'a> Claims<'a> {
         };
         let text = in_one_line(self.alloc, whole.of(reader.text))?;
         let before = self.beginning(reader, known, asked, before)?;
-        Ok(ClaimedStep {
+        let step = Step {
+            words: self.word_count(),
+            names: counted(free.len()),
+            coins,
+            before,
+            after: after.unwrap_or(Condition::Anything),
+        };
+        Ok(ClaimedLine {
             line,
             text,
-            step: Step {
-                words: counted(self.words.names.len()).saturating_add(1),
-                names: counted(free.len()),
-                coins,
-                before,
-                after: after.unwrap_or(Condition::Anything),
-            },
+            claim: Claim::Step(step),
         })
+    }
+
+    /// Reads a property.
+    fn property(
+        &self,
+        reader: &mut Reader<'a>,
+        known: &Known,
+    ) -> Result<ClaimedLine, ReadClaimsError>
+        ensures { IfOk result IsMeant }
+    {
+        let names = self.word_texts()?;
+        let property = read_property(self.alloc, names.as_slice(), reader)?;
+        let sizes = self.beginning(reader, known, None, None)?;
+        let Property {
+            line,
+            text,
+            form: _form,
+            holds,
+        } = property;
+        let step = step_of_property(self.alloc, self.word_count(), sizes, &holds)?;
+        let claim = match step {
+            Some(step) => Claim::Property(holds, step),
+            None => Claim::Uncovered,
+        };
+        Ok(ClaimedLine {
+            line: line as usize,
+            text,
+            claim,
+        })
+    }
+
+    /// Returns the number of a rule's words, the clock among them.
+    fn word_count(&self) -> u32 {
+        counted(self.words.names.len()).saturating_add(1)
+    }
+
+    /// Returns the names of the words by their places.
+    fn word_texts(&self) -> Result<Vec<String>, AllocError> {
+        let mut texts = Vec::new(self.alloc);
+        texts.push(String::from_str(self.alloc, "clock")?)?;
+        for name in self.words.names {
+            let name = str::from_utf8(name.of(self.words.rule)).unwrap_or("");
+            texts.push(String::from_str(self.alloc, name)?)?;
+        }
+        Ok(texts)
     }
 
     /// Reads what follows the sets of a step.

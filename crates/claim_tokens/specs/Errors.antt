@@ -1,8 +1,8 @@
--- The names of errors of claims (docs/ALL_SIZES.md, "Certificates"), and the line that refuses a text of claims.
+-- The names of errors of claims (docs/ALL_SIZES.md, "Certificates"; docs/PROPERTIES.md, "Refusals"), and the line that refuses a text of claims.
 use Rattle.std.specs.Prelude.{ℕ, List, ◌++◌, codes}
 use Rattle.std.specs.Fmt.{decimal}
 use Rattle.claim_tokens.specs.declared.errors.ClaimError.{ClaimError}
-use Rattle.claim_tokens.specs.declared.errors.ClaimError.TheVariants.{BadCharacter, Expected, UnknownName, NameTwice, OutOfRange, TooDeep, TooLong, NotCovered}
+use Rattle.claim_tokens.specs.declared.errors.ClaimError.TheVariants.{BadCharacter, Expected, UnknownName, NameTwice, OutOfRange, TooDeep, TooLong, NotCovered, NotAssumed}
 
 abbrev pub claim_error_name : ClaimError → List ℕ
 claim_error_name BadCharacter = codes "BadCharacter"
@@ -13,6 +13,7 @@ claim_error_name OutOfRange = codes "OutOfRange"
 claim_error_name TooDeep = codes "TooDeep"
 claim_error_name TooLong = codes "TooLong"
 claim_error_name NotCovered = codes "NotCovered"
+claim_error_name NotAssumed = codes "NotAssumed"
 
 -- the line of a refusal, without its end
 abbrev pub claims_refusal_line : ClaimError → ℕ → ℕ → List ℕ

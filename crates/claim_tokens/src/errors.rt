@@ -22,6 +22,8 @@ pub enum ClaimError {
     TooLong,
     /// A set, a term or a word of which certificates say nothing.
     NotCovered,
+    /// The sizes of a scenario aren't those that are meant.
+    NotAssumed,
 }
 
 impl ClaimError {
@@ -41,23 +43,20 @@ impl ClaimError {
             ClaimError::TooDeep => "TooDeep",
             ClaimError::TooLong => "TooLong",
             ClaimError::NotCovered => "NotCovered",
+            ClaimError::NotAssumed => "NotAssumed",
         }
     }
 }
 
-/// Why a text isn't read as claims: its first error, with the line and the column from 1, or memory ran out.
+/// Why a text isn't read as claims: its first error, or memory ran out.
 #[derive(Clone, Copy, Debug, PartialEq, Eq)]
 pub enum ReadClaimsError {
     Memory,
-    At {
-        error: ClaimError,
-        line: usize,
-        column: usize,
-    },
+    Refused(ClaimsRefusal),
 }
 
-/// The line that refuses a text, without its end.
-#[derive(Clone, Copy)]
+/// The first error of a text, with its line and column from 1. Its text is the line that refuses the claims, without its end.
+#[derive(Clone, Copy, Debug, PartialEq, Eq)]
 pub struct ClaimsRefusal {
     pub error: ClaimError,
     pub line: usize,

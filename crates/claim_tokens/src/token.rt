@@ -1,6 +1,6 @@
 //! Tokens of claims.
 
-use crate::errors::{ClaimError, ReadClaimsError};
+use crate::errors::{ClaimError, ClaimsRefusal, ReadClaimsError};
 
 /// A part of a text.
 #[derive(Clone, Copy)]
@@ -69,11 +69,11 @@ impl Token {
             Kind::Fault(own) => own,
             _ => error,
         };
-        ReadClaimsError::At {
+        ReadClaimsError::Refused(ClaimsRefusal {
             error,
             line: self.line,
             column: self.column,
-        }
+        })
     }
 }
 

@@ -1,5 +1,6 @@
 -- `--images @FILE`: the words with what a file lists in place of its name (docs/EXPLORE_REFERENCE.md). `--rule FILE` and
--- `--claims FILE`: those with the file's text in place of its name (docs/ALL_SIZES.md).
+-- `--claims FILE`: those with the file's text in place of its name (docs/ALL_SIZES.md). `--rule=FILE` and
+-- `--claims=FILE` are these in one word.
 use Rattle.std.specs.Prelude.{◌≡◌, ◌⊎◌, ◌≤◌, ◌==◌, ℕ, List, [], ◌∷◌, ◌++◌, codes, fold, length, if◌then◌else◌}
 use Rattle.std.specs.Prelude.{IfSome, Option, Some, None}
 use Rattle.std.specs.List.{before_first}
@@ -67,10 +68,22 @@ IsListWordFor files before word made =
     × TakesPlace before list made)
     ⊎ (((path : List ℕ) → NamesFile before word path → ⊥) × (made ≡ word))
 
+-- a word joins one of these options and the path of a file
+abbrev pub JoinsFile : List ℕ → List ℕ → List ℕ → Type 0
+JoinsFile word option path =
+    ((option ≡ codes "--rule=") ⊎ (option ≡ codes "--claims=")) × (word ≡ option ++ path)
+
+-- the word that is made of one that joins an option and a path: the option and the file's text
+abbrev pub IsTextWordFor : (List ℕ → Option (List ℕ)) → Option (List ℕ) → List ℕ → List ℕ → Type 0
+IsTextWordFor files before word made =
+    ((option : List ℕ) × (path : List ℕ) × (text : List ℕ) × JoinsFile word option path
+    × IsTextInFile (files path) text × (made ≡ option ++ text))
+    ⊎ (((option path : List ℕ) → JoinsFile word option path → ⊥) × IsListWordFor files before word made)
+
 -- the word that is made of a word: the text of the file that it names after an option of a text
 abbrev pub IsWordFor : (List ℕ → Option (List ℕ)) → Option (List ℕ) → List ℕ → List ℕ → Type 0
 IsWordFor files before word made = (FollowsTextOption before × IsTextInFile (files word) made)
-    ⊎ ((FollowsTextOption before → ⊥) × IsListWordFor files before word made)
+    ⊎ ((FollowsTextOption before → ⊥) × IsTextWordFor files before word made)
 
 -- the words that are made of words, of which the first comes after this one
 abbrev pub AreWordsFor : (List ℕ → Option (List ℕ)) → Option (List ℕ) → List (List ℕ) → List (List ℕ) → Type 0
@@ -82,7 +95,8 @@ AreWordsFor files before (word ∷ words) made = (first : List ℕ) × (rest : L
 
 -- a word names a file
 abbrev pub NamesAny : Option (List ℕ) → List ℕ → Type 0
-NamesAny before word = FollowsTextOption before ⊎ ((path : List ℕ) × NamesFile before word path)
+NamesAny before word = FollowsTextOption before
+    ⊎ (((option : List ℕ) × (path : List ℕ) × JoinsFile word option path) ⊎ ((path : List ℕ) × NamesFile before word path))
 
 -- some word names a file
 abbrev pub NamesSome : Option (List ℕ) → List (List ℕ) → Type 0

@@ -1,8 +1,8 @@
 //! `--images @FILE`: the memories that a file lists, in place of the word that names it (docs/EXPLORE_REFERENCE.md).
-//! `--rule FILE` and `--claims FILE`: the text of a file, likewise (docs/ALL_SIZES.md).
+//! `--rule FILE` and `--claims FILE`, also as one word with `=`: the text of a file, likewise (docs/ALL_SIZES.md).
 ghost use Rattle.std.specs.Prelude.{◌≡◌, ◌↔◌, ◌≤◌, IfErr, IfOk, IsTrue, List, MatchOption, None, OnOk, length, map, option_map, string_bytes, ℕ};
 ghost use Rattle.clockbed.specs.Words.{AreWordsFor, FollowsOption, FollowsTextOption, IsFaultOfWords, IsListInFile, IsListWordFor};
-ghost use Rattle.clockbed.specs.Words.{IsTextInFile, IsWordFor, NamesAny, NamesFile, NamesSome};
+ghost use Rattle.clockbed.specs.Words.{IsTextInFile, IsTextWordFor, IsWordFor, JoinsFile, NamesAny, NamesFile, NamesSome};
 ghost use Rattle.clockbed.specs.Words.{line_image, list_of_text, with_image, with_line};
 ghost use Rattle.clockbed.specs.declared.images.TheConstants.{MAX_FILE_BYTES};
 ghost use Rattle.command_answers.specs.Faults.{IsOfCommandLine};
@@ -26,6 +26,11 @@ const OPTION_WITH_FILE: &str = "--images=@";
 const RULE_OPTION: &str = "--rule";
 
 const CLAIMS_OPTION: &str = "--claims";
+
+/// Such an option and the name of a file in one word, up to the name.
+const RULE_WITH_FILE: &str = "--rule=";
+
+const CLAIMS_WITH_FILE: &str = "--claims=";
 
 /// These options, as a fault names them.
 const TEXT_OPTION_NAMES: &str = "--rule or --claims";
@@ -200,8 +205,48 @@ fn word_for<O: Opener>(
     if follows_text_option(before) {
         text_at(alloc, opener, word)
     } else {
-        list_word_for(alloc, opener, before, word)
+        text_word_for(alloc, opener, before, word)
     }
+}
+
+/// An option of a text and the path of its file, from one word.
+#[derive(Clone, Copy)]
+struct JoinedFile<'a> {
+    option: &'a str,
+    path: &'a str,
+}
+
+/// Returns the option and the path that a word joins, if it does.
+fn joined_file(word: &str) -> Option<JoinedFile<'_>>
+    ensures { MatchOption result ((option path : List ℕ) → JoinsFile word.now option path → ⊥)
+        (λ joined. JoinsFile word.now joined.option.now joined.path.now) }
+{
+    if let Some(path) = word.strip_prefix(RULE_WITH_FILE) {
+        let option = RULE_WITH_FILE;
+        return Some(JoinedFile { option, path });
+    }
+    let path = word.strip_prefix(CLAIMS_WITH_FILE)?;
+    let option = CLAIMS_WITH_FILE;
+    Some(JoinedFile { option, path })
+}
+
+/// Returns the word itself, or the option with the text or the list of the file that the word names.
+fn text_word_for<O: Opener>(
+    alloc: Global,
+    opener: &O,
+    before: Option<&str>,
+    word: &str,
+) -> Result<String, Failed>
+    ensures word { IfOk result (λ made.
+        IsTextWordFor (O.files opener.now) (option_map (λ word. word.now) before.entry) word.now (string_bytes made)) }
+    ensures fault { IfErr result (λ failed.
+        IsFaultOfWords (NamesAny (option_map (λ word. word.now) before.entry) word.now) failed.fault) }
+{
+    let Some(JoinedFile { option, path }) = joined_file(word) else {
+        return list_word_for(alloc, opener, before, word);
+    };
+    let text = text_at(alloc, opener, path)?;
+    Ok(format!(in alloc; "{option}{text}")?)
 }
 
 /// Returns the word itself, or the option with the list of the file that the word names.

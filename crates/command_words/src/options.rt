@@ -223,7 +223,7 @@ pub const WORKERS: NumberOption<&str, u32> = NumberOption {
 /// `--check`
 pub const CHECK: FlagOption = FlagOption {
     name: "check",
-    help: "End with status 3 if a pulse violates agreement",
+    help: "End with status 3 if a pulse violates agreement, or a property of --claims",
     ..FLAG
 };
 
@@ -449,7 +449,7 @@ pub const GRAPH: TextOption = TextOption {
 
 /// `--json` of `explore`
 pub const JSON_ANSWER: FlagOption = FlagOption {
-    help: "Print the answer as one line of JSON",
+    help: "Print the answer as a line of JSON, with --claims as several",
     ..JSON
 };
 
@@ -468,7 +468,7 @@ pub const RULE_FILE: TextOption = TextOption {
 pub const CLAIMS_FILE: TextOption = TextOption {
     name: "claims",
     value: "CLAIMS",
-    help: "File of the claims whose steps are proved",
+    help: "File of the claims, steps and properties",
     may_begin_with_dash: true,
     ..LIST
 };

@@ -8,7 +8,7 @@ ghost use Rattle.command_answers.specs.Said.{SaysAt};
 ghost use Rattle.command_answers.specs.inner.Responses.{IsNoted, IsResponse};
 
 use bench_space::Progress;
-use claim_tokens::{ClaimsRefusal, ReadClaimsError};
+use claim_tokens::ReadClaimsError;
 use command_answers::{Ending, Fault, Response, give, unfit_note};
 use exploration::{ClaimAnswer, ClaimFound, ClaimsFinding, claim_answer, claims_finding_text};
 use exploration_json::claims_lines;
@@ -47,19 +47,8 @@ pub(crate) fn claimed_explore<T: Threads + Wait + Sync, W: Sink, E: Sink, P: Pro
             give(alloc, given, out, err)
         }
         Err(ReadClaimsError::Memory) => Err(Fault::Memory),
-        Err(
-            ReadClaimsError::At {
-                error,
-                line,
-                column,
-            },
-        ) => {
-            let refusal = ClaimsRefusal {
-                error,
-                line,
-                column,
-            };
-            give(alloc, refused_claims(alloc, refusal), out, err)
+        Err(ReadClaimsError::Refused(refusal)) => {
+            give(alloc, refused_claims(alloc, scenario, refusal), out, err)
         }
     }
 }

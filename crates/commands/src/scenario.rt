@@ -86,6 +86,7 @@ fn on_scenario<T: Threads + Wait + Sync, W: Sink, E: Sink, P: Progress>(
     ensures cause { IfErr result (HasWriteCause (W.has_failed out.new)) }
     ensures thread { IfErr result (HasThreadCause (has_failed threads.new.starts)) }
 {
+    let rt = threads.runtime;
     match asked {
         ScenarioRequest::Run(options) => run(threads, alloc, *options, scenario, out),
         ScenarioRequest::Lines(options) => lines(threads, alloc, *options, scenario, out),
@@ -93,50 +94,22 @@ fn on_scenario<T: Threads + Wait + Sync, W: Sink, E: Sink, P: Progress>(
             claimed_run(threads, alloc, options, scenario, out, err)
         }
         ScenarioRequest::TracedRun(place) => {
-            give(
-                alloc,
-                traced_run(threads.runtime, alloc, *place, scenario),
-                out,
-                err,
-            )
+            give(alloc, traced_run(rt, alloc, *place, scenario), out, err)
         }
         ScenarioRequest::NodeProgram(options) => {
-            give(
-                alloc,
-                node_program(threads.runtime, alloc, *options, scenario),
-                out,
-                err,
-            )
+            give(alloc, node_program(rt, alloc, *options, scenario), out, err)
         }
-        ScenarioRequest::Sweep(options) => sweep(
-            threads.runtime,
-            alloc,
-            *options,
-            scenario,
-            out,
-            err,
-        ),
-        ScenarioRequest::ClaimedSweep(options) => claimed_sweep(
-            threads.runtime,
-            alloc,
-            options,
-            scenario,
-            out,
-            err,
-        ),
-        ScenarioRequest::ClaimedExplore(options) => claimed_explore(
-            threads.runtime,
-            alloc,
-            options,
-            scenario,
-            out,
-            err,
-            progress,
-        ),
+        ScenarioRequest::Sweep(options) => sweep(rt, alloc, *options, scenario, out, err),
+        ScenarioRequest::ClaimedSweep(options) => {
+            claimed_sweep(rt, alloc, options, scenario, out, err)
+        }
+        ScenarioRequest::ClaimedExplore(options) => {
+            claimed_explore(rt, alloc, options, scenario, out, err, progress)
+        }
         ScenarioRequest::Explore(options) => {
             give(
                 alloc,
-                explore(threads.runtime, alloc, options, scenario, progress),
+                explore(rt, alloc, options, scenario, progress),
                 out,
                 err,
             )

@@ -20,6 +20,7 @@ mod linear_certificates_example;
 mod node_env_example;
 mod parameters_example;
 mod properties_example;
+mod property_steps_example;
 mod property_text_example;
 mod requests_example;
 mod rule_c_example;

@@ -45,11 +45,21 @@ enum Joint {
     Operate(Operator),
 }
 
+/// What a term speaks of.
+#[derive(Clone, Copy, PartialEq, Eq)]
+pub(crate) enum Scope {
+    /// The sizes of a bench alone, in claims' operations.
+    Sizes,
+    /// Two nodes, too.
+    Nodes,
+}
+
 /// A reader of terms about a memory with these words, by their places.
 #[derive(Clone, Copy)]
 pub(crate) struct Terms<'a> {
     pub(crate) alloc: Global,
     pub(crate) words: &'a [String],
+    pub(crate) scope: Scope,
 }
 
 /// Returns the comparison that a sign is.
@@ -90,6 +100,16 @@ fn joint_at(reader: &Reader<'_>, layer: Layer) -> Option<Joint> {
     }
 }
 
+/// Returns true for / and %.
+fn is_division(joint: Joint) -> bool {
+    match joint {
+        Joint::Operate(Operator::Compute(operation)) => {
+            operation == Operation::Quotient || operation == Operation::Remainder
+        }
+        _ => false,
+    }
+}
+
 impl<'a> Terms<'a> {
     ghost use Rattle.std.specs.Prelude.{◌<◌, IfOk};
 
@@ -121,17 +141,16 @@ impl<'a> Terms<'a> {
             return Ok(Term::Not(Box::new(self.alloc, part)?));
         }
         let mut term = self.part(reader, layer.inner(), depth - 1)?;
-        if layer == Layer::Choice && reader.take_word("if") {
+        if layer == Layer::Choice && self.takes_if(reader)? {
             let test = self.part(reader, Layer::Either, depth - 1)?;
             reader.expect_word("else")?;
             let other = self.part(reader, Layer::Choice, depth - 1)?;
             return Ok(self.choice(test, term, other)?);
         }
         for _ in 0..reader.text.len() {
-            let Some(joint) = joint_at(reader, layer) else {
+            let Some(joint) = self.joint(reader, layer)? else {
                 break;
             };
-            let _sign = reader.next();
             let other = self.part(reader, layer.inner(), depth - 1)?;
             term = self.joined(joint, term, other)?;
             if layer == Layer::Compare {
@@ -139,6 +158,30 @@ impl<'a> Terms<'a> {
             }
         }
         Ok(term)
+    }
+
+    /// Goes past the `if` of a choice, if it is next. Claims about sizes have none.
+    fn takes_if(&self, reader: &mut Reader<'_>) -> Result<bool, ReadClaimsError> {
+        if self.scope == Scope::Sizes && reader.is_at_word("if") {
+            return Err(reader.now.error(ClaimError::NotCovered));
+        }
+        Ok(reader.take_word("if"))
+    }
+
+    /// Goes past what joins the parts of a layer, if it is next. Claims about sizes have no division.
+    fn joint(
+        &self,
+        reader: &mut Reader<'_>,
+        layer: Layer,
+    ) -> Result<Option<Joint>, ReadClaimsError> {
+        let Some(joint) = joint_at(reader, layer) else {
+            return Ok(None);
+        };
+        let sign = reader.next();
+        if self.scope == Scope::Sizes && is_division(joint) {
+            return Err(sign.error(ClaimError::NotCovered));
+        }
+        Ok(Some(joint))
     }
 
     /// Returns the term that is the first of two if the test holds.
@@ -175,6 +218,7 @@ impl<'a> Terms<'a> {
             b"f" => Ok(Term::Faults),
             b"M" => Ok(Term::Modulus),
             b"none" => Ok(Term::Number(NO_MAIL)),
+            b"p" | b"q" if self.scope == Scope::Sizes => Err(token.error(ClaimError::Expected)),
             b"p" => self.field(reader, Side::First),
             b"q" => self.field(reader, Side::Second),
             b"mail" | b"me" | b"coin" | b"clock" | b"count" | b"least" | b"sorted" => {

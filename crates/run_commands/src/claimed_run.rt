@@ -10,7 +10,7 @@ use crate::claims_file::{properties_in, refused_claims};
 use crate::run::{ending_of, fault_of};
 use bench_scenario::ReportFault;
 use bench_workers::{MAX_WORKERS, TrackedThreads};
-use claim_tokens::{ClaimsRefusal, ReadClaimsError};
+use claim_tokens::ReadClaimsError;
 use claimed_runs::{ClaimedRun, ClaimsForm, write_claims};
 use command_answers::{Ending, Fault, give};
 use properties::Property;
@@ -49,19 +49,8 @@ pub fn claimed_run<T: Threads + Wait + Sync, W: Sink, E: Sink>(
             out,
         ),
         Err(ReadClaimsError::Memory) => Err(Fault::Memory),
-        Err(
-            ReadClaimsError::At {
-                error,
-                line,
-                column,
-            },
-        ) => {
-            let refusal = ClaimsRefusal {
-                error,
-                line,
-                column,
-            };
-            give(alloc, refused_claims(alloc, refusal), out, err)
+        Err(ReadClaimsError::Refused(refusal)) => {
+            give(alloc, refused_claims(alloc, scenario, refusal), out, err)
         }
     }
 }

@@ -7,7 +7,7 @@ ghost use Rattle.scenario_text.specs.Texts.{ReadsText};
 
 use crate::claims_file::{properties_in, refused_claims};
 use crate::sweep::{no_key, workers_for};
-use claim_tokens::{ClaimsRefusal, ReadClaimsError};
+use claim_tokens::ReadClaimsError;
 use claimed_sweeps::ClaimedSweep;
 use command_answers::{Ending, Fault, give};
 use key_sweep::SweepFault;
@@ -46,19 +46,8 @@ pub fn claimed_sweep<T: Threads + Wait + Sync, W: Sink, E: Sink>(
             err,
         ),
         Err(ReadClaimsError::Memory) => Err(Fault::Memory),
-        Err(
-            ReadClaimsError::At {
-                error,
-                line,
-                column,
-            },
-        ) => {
-            let refusal = ClaimsRefusal {
-                error,
-                line,
-                column,
-            };
-            give(alloc, refused_claims(alloc, refusal), out, err)
+        Err(ReadClaimsError::Refused(refusal)) => {
+            give(alloc, refused_claims(alloc, scenario, refusal), out, err)
         }
     }
 }

@@ -7,6 +7,7 @@ ghost use Rattle.command_answers.specs.inner.Responses.{IsNoted};
 ghost use Rattle.property_text.specs.Read.{IsBounded};
 
 use claim_tokens::{ClaimError, ClaimsRefusal, ReadClaimsError};
+use claimed_runs::sizes_of;
 use command_answers::{Ending, Fault, Response};
 use explored_texts::state_words;
 use properties::Property;
@@ -15,7 +16,8 @@ use rule_notes::Note;
 use scenario_text::Scenario;
 use std::alloc::{AllocError, Global};
 
-/// Returns the properties of a text, about the words of the scenario's clock.
+/// Returns the properties of a text, about the words of the scenario's clock. The scenario's sizes have to be those that
+/// the text assumes.
 pub fn properties_in(
     alloc: Global,
     scenario: &Scenario,
@@ -24,7 +26,7 @@ pub fn properties_in(
     ensures { IfOk result (λ properties. All IsBounded properties.items) }
 {
     let words = clock_words(alloc, scenario)?;
-    read_properties(alloc, words.as_slice(), text)
+    read_properties(alloc, words.as_slice(), sizes_of(scenario), text)
 }
 
 /// Returns the words of the clock by their places: those of its rule, or of the built-in clock. Of a clock in assembler
@@ -40,8 +42,12 @@ fn clock_words(alloc: Global, scenario: &Scenario) -> Result<Vec<String>, AllocE
     Ok(words)
 }
 
-/// Returns the line of a refusal, with a note.
-pub fn refused_claims(alloc: Global, refusal: ClaimsRefusal) -> Result<Response, Fault>
+/// Returns the line of a refusal about a scenario, with a note.
+pub fn refused_claims(
+    alloc: Global,
+    scenario: &Scenario,
+    refusal: ClaimsRefusal,
+) -> Result<Response, Fault>
     ensures text { IfOk result (λ response. response.text.items
         ≡ claims_refusal_line refusal.error refusal.line refusal.column ++ codes "\n") }
     ensures ending { IfOk result (λ response. response.ending ≡ Refused) }
@@ -52,17 +58,28 @@ pub fn refused_claims(alloc: Global, refusal: ClaimsRefusal) -> Result<Response,
     Ok(Response {
         text: line.into_bytes(),
         ending: Ending::Refused,
-        note: note_on(alloc, refusal).unwrap_or(None),
+        note: note_on(alloc, scenario, refusal).unwrap_or(None),
     })
 }
 
 /// Returns the note on a refusal: its place, and what is right there.
-fn note_on(alloc: Global, refusal: ClaimsRefusal) -> Result<Option<Note>, AllocError> {
+fn note_on(
+    alloc: Global,
+    scenario: &Scenario,
+    refusal: ClaimsRefusal,
+) -> Result<Option<Note>, AllocError> {
     let ClaimsRefusal {
         error,
         line,
         column,
     } = refusal;
+    if error == ClaimError::NotAssumed {
+        let (n, f, modulus) = (scenario.nodes, scenario.faults, scenario.modulus);
+        let words = format!(in alloc;
+            "line {line}, column {column} of the claims: the scenario has n = {n}, f = {f}, M = {modulus}"
+        )?;
+        return Ok(Note::of(alloc, words));
+    }
     let advice = advice_on(error);
     let words = format!(in alloc; "line {line}, column {column} of the claims: {advice}")?;
     Ok(Note::of(alloc, words))
@@ -73,7 +90,7 @@ fn advice_on(error: ClaimError) -> &'static str {
     match error {
         ClaimError::BadCharacter => "no word and no sign has this character",
         ClaimError::Expected => {
-            "another word or sign has to be here; a line is always T, eventually always T, or within K T, such as always p.clock == q.clock"
+            "another word or sign has to be here; a line is always T, eventually always T, within K T or assume T, such as always p.clock == q.clock"
         }
         ClaimError::UnknownName => {
             "names are n, f, M, none, p.me, p.clock and p.before.clock, with the words of the rule; likewise of q"
@@ -88,5 +105,6 @@ fn advice_on(error: ClaimError) -> &'static str {
         ClaimError::NotCovered => {
             "a term speaks of p and q alone, without mail, coin, count, least, sorted and tables"
         }
+        ClaimError::NotAssumed => "the scenario has other sizes",
     }
 }

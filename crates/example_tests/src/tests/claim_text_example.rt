@@ -4,7 +4,7 @@ use std::test::Fail;
 #[test]
 fn claim_text_example(rt: HostRuntime) -> Result<(), Fail> {
     let (rule, claims) = (b"send clock\n", b"step any -> any\n");
-    let steps = read_claims(rt.alloc(), rule, claims).map_err(|_| "no claims")?;
-    assert_eq!(rt; steps.len(), 1);
+    let lines = read_claims(rt.alloc(), rule, claims).map_err(|_| "no claims")?;
+    assert_eq!(rt; lines.len(), 1);
     Ok(())
 }

@@ -1,13 +1,20 @@
 use claims_json::claims_lines;
 use properties::{PropertyVerdict, PulseClaims};
 use property_text::read_properties;
+use rule_syntax::Sizes;
 use std::test::Fail;
 
 #[test]
 fn claims_json_example(rt: HostRuntime) -> Result<(), Fail> {
     let words = [String::from_str(rt.alloc(), "clock")?];
+    let sizes = Sizes {
+        nodes: 4,
+        faults: 1,
+        modulus: 8,
+        memory: 4,
+    };
     let text = b"always p.clock == q.clock\n";
-    let properties = read_properties(rt.alloc(), &words, text).map_err(|_| "no properties")?;
+    let properties = read_properties(rt.alloc(), &words, sizes, text).map_err(|_| "no properties")?;
 
     let mut verdicts = Vec::new(rt.alloc());
     verdicts.push(PropertyVerdict::Violated {

@@ -26,13 +26,13 @@ returns-in-Ok-clause-left g c =
           c.explored-given.ensures.fault c.give.ensures.left,
     )
 
-pub returns-in-Err-At-clause-left : goal.returns-in-Err-At-clause-left
-returns-in-Err-At-clause-left g c =
-    let at = c.in-Err-At in
+pub returns-in-Err-Refused-clause-left : goal.returns-in-Err-Refused-clause-left
+returns-in-Err-Refused-clause-left g c =
+    let at = c.in-Err-Refused.refusal in
     inr (
       at.error,
       at.line,
       at.column,
-      gives_line _ Refused c.refused_claims.result _ _ c.give-in-Err-At.result c.refused_claims.ensures.text
-          c.refused_claims.ensures.ending c.refused_claims.ensures.fault c.give-in-Err-At.ensures.left,
+      gives_line _ Refused c.refused_claims.result _ _ c.give-in-Err-Refused.result c.refused_claims.ensures.text
+          c.refused_claims.ensures.ending c.refused_claims.ensures.fault c.give-in-Err-Refused.ensures.left,
     )

@@ -3,9 +3,9 @@ use Rattle.command_answers.specs.declared.ending.Ending.TheVariants.{Refused}
 use Rattle.program_commands.proofs.LeavesLemmas.{gives_line}
 use Rattle.run_commands.proofs.claimed_sweep.claimed_sweep.Goals as goal
 
-pub returns-in-Err-At-clause-left : goal.returns-in-Err-At-clause-left
-returns-in-Err-At-clause-left g c =
-    let at = c.in-Err-At in
+pub returns-in-Err-Refused-clause-left : goal.returns-in-Err-Refused-clause-left
+returns-in-Err-Refused-clause-left g c =
+    let at = c.in-Err-Refused.refusal in
     inr (
       at.error,
       at.line,
