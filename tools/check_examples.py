@@ -14,7 +14,7 @@ import sys
 
 from built_program import TOP
 
-TEST_CRATES = ["example_tests", "bench_example_tests"]
+TEST_CRATES = ["example_tests", "bench_example_tests", "command_example_tests"]
 
 LAWS = "has laws alone, which a proof cites: there is no call to run"
 

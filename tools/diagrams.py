@@ -707,14 +707,16 @@ PARTS = (
     ("mistakes.py --share", "seeded bugs", "a share of them: the prover rejects each", GREEN),
     ("check_vectors.py", "built program", "outside answers, rows, certificates, lines of runs", BLUE),
     ("check_pages.sh", "pages, archive", "every command line, the archive alone, pictures, the lab", BLUE),
-    ("refusals.py memory", "failures", "memory, threads and streams fail, one request after the other", ORANGE),
+    ("check_memory.py", "failures", "memory, threads and streams fail, one request after the other", ORANGE),
 )
+# The first and the last of the parts that run side by side.
+SIDE_BY_SIDE = 2, 4
 PART_HIGH, SCRIPT_LEFT, MAX_LETTERS = 76, 190, 84
 
 
 def parts_of_gate():
-    """The steps of each part, in the order of .ci/run."""
-    steps = re.findall(r"^step (?:tools/)?(.+)$", (TOP / ".ci/run").read_text(encoding="utf-8"), re.M)
+    """The scripts of each part, in the order of .ci/run."""
+    steps = re.findall(r"^ *step tools/(.+)$", (TOP / ".ci/run").read_text(encoding="utf-8"), re.M)
     begins = [next(at for at, step in enumerate(steps) if step.startswith(part[0])) for part in PARTS]
     return [steps[begin:end] for begin, end in zip(begins, [*begins[1:], len(steps)])]
 
@@ -731,14 +733,16 @@ def script_lines(steps):
 
 
 def gate():
-    canvas = Canvas(PART_HIGH * len(PARTS) + 10, "The gate: six parts, one after the other, each with its scripts")
+    canvas = Canvas(PART_HIGH * len(PARTS) + 10, "The gate: six parts, each with its scripts; three run side by side")
     for number, ((_, name, shows, colour), steps) in enumerate(zip(PARTS, parts_of_gate())):
         y = 10 + PART_HIGH * number
         canvas.named_box((16, y), (150, 40), name, Style(colour, size=14, weight="bold"))
         canvas.text((SCRIPT_LEFT, y + 14), shows, Style(colour, anchor="start"))
         canvas.lines((SCRIPT_LEFT, y + 33), script_lines(steps), Style(GREY, size=12, anchor="start"))
-        if number:
+        if number and not SIDE_BY_SIDE[0] < number <= SIDE_BY_SIDE[1]:
             canvas.arrow((91, y - PART_HIGH + 40), (91, y - 1), Style(GREY))
+    first, last = (10 + PART_HIGH * it for it in SIDE_BY_SIDE)
+    canvas.line((7, first), (7, last + 40), Style(GREY))
     return canvas
 
 

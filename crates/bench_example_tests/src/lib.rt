@@ -1,4 +1,4 @@
-//! The examples of the crates from the bench to commands.
+//! The examples of the crates of the bench, of its searches and of their texts.
 #![tactic(auto)]
 
 #[cfg(test)]
