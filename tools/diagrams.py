@@ -6,6 +6,7 @@ is missing, or isn't one of its own. Clocks, verdicts and messages are those of 
 examples/splitter and examples/splitter_of_three, and those that docs/EXPLORE.md shows; the bytes of instructions are
 those of docs/ASSEMBLER.md, the crates those of crates.txt, and the steps of the gate those of .ci/run.
 """
+import itertools
 import re
 import sys
 import textwrap
@@ -22,7 +23,7 @@ BLUE, ORANGE, GREEN = "#1f6fb4", "#b86e00", "#2f7d4f"
 LIGHT = {BLUE: "#d9eafa", ORANGE: "#fdecc8", GREEN: "#d8f0e0", RED: "#f8d7dc", GREY: PALE, INK: WHITE}
 ARROWED = (INK, GREY, RED, BLUE, ORANGE, GREEN)
 HEAD = 'viewBox="0 0 8 8" refX="8" refY="4" markerWidth="7" markerHeight="7" orient="auto"'
-WIDTH = 760
+WIDTH, LINE_HIGH = 760, 17
 DASH = "5 4"
 # a box with rounder corners lets what is under it shine through
 ROUND = 20
@@ -61,7 +62,7 @@ class Canvas:
 
     def lines(self, at, rows, style=PLAIN):
         for number, words in enumerate(rows):
-            self.text((at[0], at[1] + 17 * number), words, style)
+            self.text((at[0], at[1] + LINE_HIGH * number), words, style)
 
     def path(self, data, style=PLAIN, has_arrow=True):
         dash = f' stroke-dasharray="{style.dash}"' if style.dash else ""
@@ -706,8 +707,8 @@ PARTS = (
     ("gate_minutes.py", "rt ci", "every proof from nothing, must-fail edits, tests, stored runs", GREEN),
     ("mistakes.py --share", "seeded bugs", "a share of them: the prover rejects each", GREEN),
     ("check_vectors.py", "built program", "outside answers, rows, certificates, lines of runs", BLUE),
-    ("check_pages.sh", "pages, archive", "every command line, the archive alone, pictures, the lab", BLUE),
-    ("check_memory.py", "failures", "memory, threads and streams fail, one request after the other", ORANGE),
+    ("check_pages.sh", "pages, archive", "every command line, the archive alone, pictures", BLUE),
+    ("try_lab.py", "lab, failures", "a browser; memory, threads and streams fail, one after the other", ORANGE),
 )
 # The first and the last of the parts that run side by side.
 SIDE_BY_SIDE = 2, 4
@@ -732,16 +733,23 @@ def script_lines(steps):
     return lines
 
 
+def tops_of_parts(lines):
+    """Where each part begins, below the one before with its lines, and where the last ends."""
+    heights = (max(PART_HIGH, 33 + LINE_HIGH * len(it) + 10) for it in lines)
+    return list(itertools.accumulate(heights, initial=10))
+
+
 def gate():
-    canvas = Canvas(PART_HIGH * len(PARTS) + 10, "The gate: six parts, each with its scripts; three run side by side")
-    for number, ((_, name, shows, colour), steps) in enumerate(zip(PARTS, parts_of_gate())):
-        y = 10 + PART_HIGH * number
+    lines = [script_lines(it) for it in parts_of_gate()]
+    *tops, end = tops_of_parts(lines)
+    canvas = Canvas(end, "The gate: six parts, each with its scripts; three run side by side")
+    for number, ((_, name, shows, colour), y) in enumerate(zip(PARTS, tops)):
         canvas.named_box((16, y), (150, 40), name, Style(colour, size=14, weight="bold"))
         canvas.text((SCRIPT_LEFT, y + 14), shows, Style(colour, anchor="start"))
-        canvas.lines((SCRIPT_LEFT, y + 33), script_lines(steps), Style(GREY, size=12, anchor="start"))
+        canvas.lines((SCRIPT_LEFT, y + 33), lines[number], Style(GREY, size=12, anchor="start"))
         if number and not SIDE_BY_SIDE[0] < number <= SIDE_BY_SIDE[1]:
-            canvas.arrow((91, y - PART_HIGH + 40), (91, y - 1), Style(GREY))
-    first, last = (10 + PART_HIGH * it for it in SIDE_BY_SIDE)
+            canvas.arrow((91, tops[number - 1] + 40), (91, y - 1), Style(GREY))
+    first, last = (tops[it] for it in SIDE_BY_SIDE)
     canvas.line((7, first), (7, last + 40), Style(GREY))
     return canvas
 

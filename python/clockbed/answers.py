@@ -57,9 +57,10 @@ class Ask(Word):
 
 
 class By(Word):
-    """Says whether a search or the theorem for all n > 3f gave the answer."""
+    """Says what gave the answer: a search, one up to renaming of nodes, or the theorem for all n > 3f."""
 
     SEARCH = "search"
+    RENAMING = "renaming"
     THEOREM = "theorem"
 
 

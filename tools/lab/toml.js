@@ -62,6 +62,8 @@ class Reader {
     if (this.take("'")) return this.literal("'", false);
     if (this.take('"')) return this.escaped('"', false);
     if (this.take("[")) return this.array();
+    const truth = this.match(/true|false/y);
+    if (truth !== null) return truth === "true";
     const number = this.match(INTEGER);
     if (number === null) throw new Unknown(`a value at ${this.at}`);
     const bare = number.replaceAll("_", "").replace("+", ""), value = Number(bare);

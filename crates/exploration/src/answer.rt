@@ -67,6 +67,8 @@ pub enum Found {
         agrees: bool,
         states: u64,
         moves: u64,
+        /// Whether these are states and transitions up to renaming of nodes.
+        renamed: bool,
         /// After how many pulses the clocks agree for good, if agreement wasn't asked and that was found.
         agreed: Option<u64>,
         recovery: Option<Recovery>,

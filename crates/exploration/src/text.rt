@@ -1,6 +1,6 @@
 //! The lines of an answer.
 ghost use Rattle.std.specs.Prelude.{◌≡◌, IfOk, Some, codes, string_bytes};
-ghost use Rattle.exploration.specs.Answers.{agreed_text, agreement_text, cause_text, chances_text, crowded_text, finding_text, finding_with, found_text, holds_text, odds_lines, optional_line, reach_text, recovery_text, stability_text, theorem_agreement_line, theorem_agreement_text, theorem_text, tried_with, unfinished_text, violation_text};
+ghost use Rattle.exploration.specs.Answers.{agreed_text, agreement_text, cause_text, chances_text, crowded_text, finding_text, finding_with, found_text, holds_text, odds_lines, optional_line, reach_text, recovery_text, renamed_text, stability_text, theorem_agreement_line, theorem_agreement_text, theorem_text, tried_with, unfinished_text, violation_text};
 
 use crate::answer::{Finding, Found, Reach, Tried};
 use crate::nodes::{Byzantine, Correct};
@@ -36,17 +36,33 @@ impl fmt::Display for HoldsText {
     }
 }
 
-/// The same, or that it wasn't asked.
+/// Whether states and transitions are those up to renaming of nodes.
+#[derive(Clone, Copy)]
+struct RenamedText(bool);
+
+impl fmt::Display for RenamedText {
+    ghost output = { λ text. Some (renamed_text text.0) };
+
+    fn fmt<W: fmt::Write>(&self, f: &mut fmt::Formatter<W>) -> fmt::Result {
+        match self.0 {
+            true => write!(f, ", up to renaming of nodes"),
+            false => Ok(()),
+        }
+    }
+}
+
+/// That agreement holds, or that there is none to judge, or that it wasn't asked.
 #[derive(Clone, Copy)]
 struct AgreementText {
     alone: bool,
     agrees: bool,
     states: u64,
     moves: u64,
+    renamed: bool,
 }
 
 impl fmt::Display for AgreementText {
-    ghost output = { λ text. Some (agreement_text text.alone text.agrees text.states text.moves) };
+    ghost output = { λ text. Some (agreement_text text.alone text.agrees text.states text.moves text.renamed) };
 
     fn fmt<W: fmt::Write>(&self, f: &mut fmt::Formatter<W>) -> fmt::Result {
         let states = states(self.states);
@@ -54,11 +70,12 @@ impl fmt::Display for AgreementText {
             count: self.moves,
             word: "transition",
         };
+        let renamed = RenamedText(self.renamed);
         if self.agrees {
             let holds = HoldsText(self.alone);
-            write!(f, "{holds}: {states}, {moves}")
+            write!(f, "{holds}: {states}, {moves}{renamed}")
         } else {
-            write!(f, "agreement not asked: {states}, {moves}")
+            write!(f, "agreement not asked: {states}, {moves}{renamed}")
         }
     }
 }
@@ -396,6 +413,7 @@ impl fmt::Display for FoundLines<'_> {
                 agrees,
                 states,
                 moves,
+                renamed,
                 agreed,
                 recovery,
                 odds,
@@ -407,6 +425,7 @@ impl fmt::Display for FoundLines<'_> {
                     agrees: *agrees,
                     states: *states,
                     moves: *moves,
+                    renamed: *renamed,
                 };
                 let recovery = RecoveryLine {
                     mark,

@@ -53,7 +53,9 @@ pub(crate) fn method_of(found: &Found) -> &'static str
     ensures { result.now ≡ method_of found.now }
 {
     match found {
-        Found::Closed { .. } | Found::Parts { .. } | Found::Unfinished { .. } => "search",
+        Found::Closed { renamed: true, .. } => "renaming",
+        Found::Closed { renamed: false, .. } | Found::Parts { .. } | Found::Unfinished { .. } =>
+            "search",
         Found::Theorem { .. } => "theorem",
     }
 }

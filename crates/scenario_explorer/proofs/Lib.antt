@@ -2,6 +2,7 @@ pub mod PlaceLemmas
 pub mod ClaimLemmas
 pub mod ExploreLemmas
 pub mod TheoremLemmas
+pub mod RenamedLemmas
 mod OneExploration
 pub mod SameBeds
 pub mod RuleSteps

@@ -37,6 +37,7 @@ mod claims;
 mod exploring;
 mod fit;
 mod laws;
+mod renaming;
 mod same_bench;
 mod theorem;
 mod violation;

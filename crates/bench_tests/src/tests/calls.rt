@@ -84,7 +84,10 @@ fn last_result(alloc: Global, coins: &[u32]) -> Result<NodeDone, Fail> {
         return Err("not staged")?;
     }
     let mut tasks = bench.open_pulse(alloc, coins)?;
-    Ok(tasks.pop().ok_or("no task")?.run())
+    let Some(last) = tasks.pop() else {
+        return Err("no task")?;
+    };
+    Ok(last.run())
 }
 
 /// Closes a pulse with one result too many: one equal to its last node's, or one of a pulse with other coins. Then it
@@ -133,7 +136,9 @@ fn unload_often<B: Ledger, C: Ledger, R: Wait>(
     times: usize,
 ) -> Result<Option<StageError>, Fail> {
     for _ in 0..times {
-        let loader = shared.loaders.first_mut().ok_or("no loader")?;
+        let Some(loader) = shared.loaders.first_mut() else {
+            return Err("no loader")?;
+        };
         if let Err((_, error)) = shared.bench.unload(rt, alloc, loader, 0) {
             return Ok(Some(error));
         }
@@ -175,7 +180,9 @@ fn stage_two<B: Ledger, C: Ledger, R: Wait>(
     alloc: Global,
     shared: &mut Shared<B, C>,
 ) -> Result<(), Fail> {
-    let loader = shared.loaders.get_mut(1).ok_or("no second loader")?;
+    let Some(loader) = shared.loaders.get_mut(1) else {
+        return Err("no second loader")?;
+    };
     let image = vec![in alloc; 5; 8]?;
     if shared.bench.corrupt(rt, alloc, loader, 1, image).is_err()
         || shared.bench.unload(rt, alloc, loader, 2).is_err()

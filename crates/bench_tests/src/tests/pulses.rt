@@ -27,7 +27,9 @@ impl SharedTest for Compared {
         let mut shared = shared;
         for workers in 1..=MAX_WORKERS {
             let record = self.records.get(workers as usize - 1);
-            let record = record.ok_or("no record")?;
+            let Some(record) = record else {
+                return Err("no record")?;
+            };
             let gate = Counting::new(alloc, 100)?;
             let told = shared.pulse(rt, alloc, &gate, workers)?;
             assert_same(rt, &told, record);

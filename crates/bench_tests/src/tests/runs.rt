@@ -98,7 +98,9 @@ fn a_shut_gate_is_told_at_its_pulse(rt: HostRuntime) -> Result<(), Fail> {
             four.rule,
             events,
         );
-        let fault = got.err().ok_or("no fault")?;
+        let Some(fault) = got.err() else {
+            return Err("no fault")?;
+        };
         assert_eq!(rt; (fault.event, fault.fault), (5, RunRefusal::GateShut));
         gate.assert_entered(&rt, workers, 2);
     }

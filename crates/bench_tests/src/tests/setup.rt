@@ -24,8 +24,12 @@ pub struct Setup {
 impl Setup {
     /// Returns this many nodes, of which `faults` may be faulty, with clocks below the modulus.
     pub fn of(nodes: u32, faults: u32, modulus: u32) -> Result<Setup, Fail> {
-        let shape = Shape::of(nodes, 8).ok_or("no shape")?;
-        let rule = ClockRule::of(nodes, faults, modulus).ok_or("no rule")?;
+        let Some(shape) = Shape::of(nodes, 8) else {
+            return Err("no shape")?;
+        };
+        let Some(rule) = ClockRule::of(nodes, faults, modulus) else {
+            return Err("no rule")?;
+        };
         Ok(Setup { shape, rule })
     }
 

@@ -95,7 +95,9 @@ fn load_clocks<B: Ledger, C: Ledger, R: Wait>(
     loaders: &mut [LoaderPass<B, C>],
     four: &Setup,
 ) -> Result<(), Fail> {
-    let loader = loaders.first_mut().ok_or("no loader")?;
+    let Some(loader) = loaders.first_mut() else {
+        return Err("no loader")?;
+    };
     let program = four.clock(alloc)?;
     for node in 0..4 {
         if bench
@@ -167,7 +169,9 @@ impl<B: Ledger, C: Ledger> Shared<B, C> {
             mut loaders,
             ..
         } = self;
-        let last = loaders.pop().ok_or("no loader")?;
+        let Some(last) = loaders.pop() else {
+            return Err("no loader")?;
+        };
         let Err((bench, engine, mut loaders)) = bench.finish(engine, loaders) else {
             return Err("finished without a pass")?;
         };
